@@ -1,0 +1,4 @@
+pub mod SetLaws
+pub mod KindLaws
+pub mod SpanLaws
+pub mod SizeLaws
