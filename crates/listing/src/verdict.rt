@@ -1,0 +1,5 @@
+#[derive(Clone, Copy)]
+pub enum Verdict {
+    Settled(u64),
+    Impossible(u64, usize, usize),
+}
