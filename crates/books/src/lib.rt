@@ -1,0 +1,4 @@
+// The rulebooks of the planner.
+mod post;
+
+pub use post::DayPost;

@@ -1,0 +1,4 @@
+pub mod Sums
+pub mod Questions
+pub mod Sizes
+pub mod Meaning
