@@ -1,8 +1,12 @@
 -- What each record says.
+use mathlib.Core.Bool.{cond}
 use mathlib.Core.List.{List, [], _∷_}
 use Prim.Native.Nat.{ℕ, suc}
+use lib.Dec.{eqb, leb}
 use lib.IntN.{pos}
 use lib.ListN.{length, getD, set, drop, replicate}
+use Rattle.std.specs.declared.option.Option.{Option}
+use Rattle.std.specs.declared.option.Option.the-variants.{Some, None}
 use Rattle.windows.specs.declared.span.SpanRow.{SpanRow}
 use Rattle.sums.specs.declared.posted.Term.{Term}
 use Rattle.sums.specs.declared.posted.PostedSum.{PostedSum}
@@ -30,12 +34,12 @@ placed out n (t ∷ ts) = placed (set out n t) (suc n) ts
 abbrev pub posted-sum : List ℕ → PostedSum
 posted-sum p = record { bound = int32 p 0; terms = placed (replicate 8 (record { window = 0; weight = pos 0 })) 0 (terms (drop 4 p)); count = length (terms (drop 4 p)) }
 
--- what a record of the right length says
-abbrev pub item-of : Rec → Item
-item-of (kind p) = item.Kind (getD p 0 0)
-item-of (span p) = item.Window (record { lo = int32 p 0; hi = int32 p 4 })
-item-of (sumEquals p) = item.Rule (post.SumEquals (posted-sum p))
-item-of (sumAtMost p) = item.Rule (post.SumAtMost (posted-sum p))
-item-of (differ p) = item.Rule (post.Differ (getD p 0 0) (getD p 1 0))
-item-of (same p) = item.Rule (post.Same (getD p 0 0) (getD p 1 0))
-item-of (note p) = item.Note
+-- what a record says; nothing where its payload has the wrong length
+abbrev pub item-of : Rec → Option Item
+item-of (kind p) = cond (eqb (length p) 1) (Some (item.Kind (getD p 0 0))) None
+item-of (span p) = cond (eqb (length p) 8) (Some (item.Window (record { lo = int32 p 0; hi = int32 p 4 }))) None
+item-of (sumEquals p) = cond (leb 4 (length p)) (Some (item.Rule (post.SumEquals (posted-sum p)))) None
+item-of (sumAtMost p) = cond (leb 4 (length p)) (Some (item.Rule (post.SumAtMost (posted-sum p)))) None
+item-of (differ p) = cond (eqb (length p) 2) (Some (item.Rule (post.Differ (getD p 0 0) (getD p 1 0)))) None
+item-of (same p) = cond (eqb (length p) 2) (Some (item.Rule (post.Same (getD p 0 0) (getD p 1 0)))) None
+item-of (note p) = Some item.Note
