@@ -100,3 +100,14 @@ accepted len asked e = go (ltb len 64) e
     go : (b : Bool) → cond b asked (Some Full) ≡ None → asked ≡ None
     go true q = q
     go false q = let z : _≡_ {A = ℕ} 0 1 = cc in absurd (omega arith)
+
+-- ---- the laws of a book, from those of its rules
+module _ {R : Type 0} (rule : R → Rule) (slots : List (Option R)) (len : ℕ) where
+  pub book-lawful : (sets : List ℤ → Type 0) → ((r : R) → Lawful sets (rule r)) → (i : ℕ) → Lawful sets (getD (slot-rules rule slots len) i missing)
+  book-lawful sets f i = at-each rule (Lawful sets) f (missing-lawful sets) slots len i
+
+  pub book-few : len ≤ 64 → length (slot-rules rule slots len) ≤ 64
+  book-few h = omega (arith, length-map (take len slots) (slot-rule rule), length-take len slots)
+
+  pub book-near : ((r : R) (j : ℕ) → rule r .reads j ≡ true → j < 64) → (i j : ℕ) → getD (slot-rules rule slots len) i missing .reads j ≡ true → j < 64
+  book-near f i j = at-each rule (λ r. r .reads j ≡ true → j < 64) (λ r. f r j) (λ e. let z : _≡_ {A = ℕ} 0 1 = cc in absurd (omega arith)) slots len i

@@ -1,17 +1,14 @@
-// A book as a list of at most 64 rules.
+// A book as a list of at most 64 rules: every call that the trait of a rulebook asks for, proved once for all types of rule.
 ghost use mathlib.Core.Path.{_≡_};
-ghost use mathlib.Core.List.{List, []};
-ghost use mathlib.Core.Bool.{Bool};
-ghost use Prim.Native.Nat.{ℕ, _≤_};
-ghost use lib.ListN.{length, getD};
-ghost use Rattle.windows.specs.Kinds.{Of};
+ghost use mathlib.Core.List.{[], map};
+ghost use Prim.Native.Nat.{_≤_};
+ghost use lib.ListN.{length, getD, take};
 ghost use Rattle.rulebook.specs.Rules.{missing};
-ghost use Rattle.rulebook.specs.Answers.{any, reads-at};
+ghost use Rattle.rulebook.specs.Answers.{outcome, Tells, Rows-kept, posted, any, reads-at, reach-of};
 ghost use Rattle.rules.specs.Books.{slot-rule, slot-rules, book-refuses};
 use crate::rule::BookRule;
 use rulebook::BookRefusal;
 use rulebook::Narrowing;
-use rulebook::RuleBook;
 use rulebook::WindowSet;
 use windows::Window;
 
@@ -57,26 +54,18 @@ impl<R: BookRule> Book<R> {
         }
         false
     }
-}
 
-pub impl<R: BookRule> RuleBook for Book<R> as ListBook {
-    type Kind = R::Kind;
-
-    type Post = R::Post;
-
-    ghost sets = { Of (Kind·Window .kind) };
-
-    ghost rules = { λ b. slot-rules (R·BookRule .rule) (b .slots) (b .len) };
-
-    ghost meaning = { R·BookRule .meaning };
-
-    ghost refuses = { λ b p n. book-refuses (b .len) (R·BookRule .asks p n) };
-
-    fn count(&self) -> usize {
+    // How many rules the book holds.
+    pub fn count(&self) -> usize
+        ensures { λ r. ⌜ r ≡ length (slot-rules (R·BookRule .rule) (now (self .entry) .slots) (now (self .entry) .len)) ⌝ }
+    {
         self.len
     }
 
-    fn reach(&self) -> usize {
+    // One more than the highest window that a rule reads, 0 if none reads any.
+    pub fn reach(&self) -> usize
+        ensures { λ r. ⌜ r ≡ reach-of (slot-rules (R·BookRule .rule) (now (self .entry) .slots) (now (self .entry) .len)) 64 ⌝ }
+    {
         let mut reach = 0;
         for j in 0..64 {
             if self.some_reads(j) {
@@ -86,21 +75,31 @@ pub impl<R: BookRule> RuleBook for Book<R> as ListBook {
         reach
     }
 
-    fn reads(&self, i: usize, j: usize) -> bool {
+    // Does rule i read window j?
+    pub fn reads(&self, i: usize, j: usize) -> bool
+        ensures { λ r. ⌜ r ≡ getD (slot-rules (R·BookRule .rule) (now (self .entry) .slots) (now (self .entry) .len)) i missing .reads j ⌝ }
+    {
         match self.rule_at(i) {
             Some(rule) => rule.reads(j),
             None => false,
         }
     }
 
-    fn narrow(&self, i: usize, rows: &mut [<R::Kind as Window>::Row]) -> Narrowing {
+    // Narrows the rows by rule i; a missing rule changes nothing.
+    pub fn narrow(&self, i: usize, rows: &mut [<R::Kind as Window>::Row]) -> Narrowing
+        ensures equation { λ r. ⌜ Tells (map (Kind·Window .stands) (now (rows .entry))) (outcome (getD (slot-rules (R·BookRule .rule) (now (self .entry) .slots) (now (self .entry) .len)) i missing) (map (Kind·Window .stands) (now (rows .entry)))) r (map (Kind·Window .stands) (now (rows .exit))) ⌝ }
+        ensures rows { λ r. ⌜ Rows-kept r (now (rows .entry)) (now (rows .exit)) ⌝ }
+    {
         match self.rule_at(i) {
             Some(rule) => rule.narrow(rows),
             None => Narrowing::Changed(WindowSet::empty()),
         }
     }
 
-    fn post(&mut self, rule: R::Post, n: usize) -> Result<usize, BookRefusal> {
+    // Adds a rule for n windows at the end and answers its number, or refuses it.
+    pub fn post(&mut self, rule: R::Post, n: usize) -> Result<usize, BookRefusal>
+        ensures { λ r. ⌜ posted (slot-rules (R·BookRule .rule) (now (self .entry) .slots) (now (self .entry) .len)) (R·BookRule .meaning rule) (book-refuses (now (self .entry) .len) (R·BookRule .asks rule n)) ≡ record { answer = r; after = slot-rules (R·BookRule .rule) (now (self .exit) .slots) (now (self .exit) .len) } ⌝ }
+    {
         if self.len >= FULL {
             return Err(BookRefusal::Full);
         }
@@ -115,7 +114,10 @@ pub impl<R: BookRule> RuleBook for Book<R> as ListBook {
         }
     }
 
-    fn shorten(&mut self, k: usize) {
+    // Keeps the first k rules, or all if there are fewer.
+    pub fn shorten(&mut self, k: usize)
+        ensures { λ _. ⌜ slot-rules (R·BookRule .rule) (now (self .exit) .slots) (now (self .exit) .len) ≡ take k (slot-rules (R·BookRule .rule) (now (self .entry) .slots) (now (self .entry) .len)) ⌝ }
+    {
         if k < self.len {
             self.len = k;
         }

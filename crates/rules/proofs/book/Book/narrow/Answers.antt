@@ -4,7 +4,7 @@ use Rattle.rulebook.specs.Rules.{Rule}
 use Rattle.rulebook.specs.Answers.{outcome, Tells}
 use Rattle.rulebook.specs.declared.answer.Narrowing.the-variants.{Changed}
 use Rattle.rules.proofs.BookLaws.{tells-missing}
-use Rattle.rules.proofs.book.ListBook.narrow.Needs as need
+use Rattle.rules.proofs.book.Book.narrow.Needs as need
 
 pub returns-in-None : need.returns-in-None
 returns-in-None g c =

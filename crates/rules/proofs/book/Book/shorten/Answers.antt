@@ -1,6 +1,6 @@
 use native.Mathlib.Omega.{arith}
 use Rattle.rules.proofs.BookLaws.{shortened, not-shortened}
-use Rattle.rules.proofs.book.ListBook.shorten.Needs as need
+use Rattle.rules.proofs.book.Book.shorten.Needs as need
 
 pub returns-then-k-self : need.returns-then-k-self
 returns-then-k-self g c = shortened (g .R·BookRule .rule) (c .args .self .now .slots) (c .args .self .now .len) (c .args .k) (omega arith)

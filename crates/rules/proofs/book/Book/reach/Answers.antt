@@ -3,8 +3,8 @@ use native.Mathlib.Omega.{arith}
 use Rattle.rulebook.specs.Answers.{reach-of}
 use Rattle.rules.specs.Books.{slot-rules}
 use Rattle.rules.proofs.BookLaws.{reach-more, reach-kept}
-use Rattle.rules.proofs.book.ListBook.reach.Needs as need
-use Rattle.rules.proofs.book.ListBook.reach.Needs.{then-some-reads, else-some-reads}
+use Rattle.rules.proofs.book.Book.reach.Needs as need
+use Rattle.rules.proofs.book.Book.reach.Needs.{then-some-reads, else-some-reads}
 
 pub loop-j-again : need.loop-j-again
 loop-j-again g c =
