@@ -1,2 +1,4 @@
 pub mod Signed
 pub mod SumLaws
+pub mod QuestionLaws
+pub mod SumCode

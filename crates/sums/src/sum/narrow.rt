@@ -1,0 +1,163 @@
+// Narrowing rows by a sum.
+ghost use mathlib.Core.Path.{_≡_};
+ghost use mathlib.Core.Bool.{true, cond};
+ghost use mathlib.Core.List.{map};
+ghost use Prim.Native.Nat.{ℕ, _≤_};
+ghost use lib.ListN.{length};
+ghost use lib.IntN.{ℤ, pos, negsuc, negℤ, _-ℤ_, _*ℤ_};
+ghost use lib.Signed.{_≤ℤ_};
+ghost use Rattle.std.specs.Numbers.{minZ, maxZ, divEuclid};
+ghost use Rattle.std.specs.shelf.Lists.{kept-by};
+ghost use Rattle.windows.specs.Sets.{range, between, least-by, greatest-by};
+ghost use Rattle.windows.specs.Rows.{Stands, span-numbers};
+ghost use Rattle.rulebook.specs.Tables.{window};
+ghost use Rattle.sums.specs.Sums.{weighed};
+ghost use Rattle.sums.specs.Questions.{weights-fit};
+ghost use Rattle.sums.specs.Sizes.{Weighs, Small};
+ghost use Rattle.sums.specs.Steps.{Row-of, Window-of, Extremes-of};
+use crate::posted::Term;
+use windows::Span;
+use windows::SpanRow;
+use windows::SpanWindow;
+use windows::Window;
+
+// The least and the greatest sum that terms can have.
+#[derive(Clone, Copy)]
+struct Extremes {
+    least: i64,
+    greatest: i64,
+}
+
+// A weight times a number of a span.
+fn times(weight: i32, v: i32) -> i64
+    requires { ⌜ Weighs weight ⌝ ∗ ⌜ Small 1000000 v ⌝ }
+    ensures value { λ r. ⌜ r ≡ weight *ℤ v ⌝ }
+    ensures bound { λ r. ⌜ Small 10000000000 r ⌝ }
+{
+    weight as i64 * v as i64
+}
+
+// What a term can be at least.
+fn least_term(weight: i32, row: SpanRow) -> i64
+    requires { ⌜ Weighs weight ⌝ ∗ ⌜ Stands (row .lo) (row .hi) ⌝ }
+    ensures value { λ r. ⌜ r ≡ least-by (λ v. weight *ℤ v) (range (row .lo) (row .hi)) ⌝ }
+    ensures bound { λ r. ⌜ Small 10000000000 r ⌝ }
+{
+    if weight > 0 {
+        times(weight, row.lo)
+    } else {
+        times(weight, row.hi)
+    }
+}
+
+// What a term can be at most.
+fn greatest_term(weight: i32, row: SpanRow) -> i64
+    requires { ⌜ Weighs weight ⌝ ∗ ⌜ Stands (row .lo) (row .hi) ⌝ }
+    ensures value { λ r. ⌜ r ≡ greatest-by (λ v. weight *ℤ v) (range (row .lo) (row .hi)) ⌝ }
+    ensures bound { λ r. ⌜ Small 10000000000 r ⌝ }
+{
+    if weight > 0 {
+        times(weight, row.hi)
+    } else {
+        times(weight, row.lo)
+    }
+}
+
+// The quotient, rounded down.
+fn floor(x: i64, by: i64) -> i64
+    requires { ⌜ Small 1000000000000 x ⌝ ∗ ⌜ pos 1 ≤ℤ by ⌝ }
+    ensures value { λ r. ⌜ r ≡ divEuclid x by ⌝ }
+    ensures bound { λ r. ⌜ Small 1000000000000 r ⌝ }
+{
+    x.div_euclid(by)
+}
+
+// How far below 0 a number may lie: all the way, unless the sum is exact.
+fn depth(exact: bool, low: i64, size: i64) -> i64
+    requires { ⌜ Small 1000000000000 low ⌝ ∗ ⌜ pos 1 ≤ℤ size ⌝ }
+    ensures value { λ r. ⌜ r ≡ cond exact (divEuclid (negℤ low) size) (pos 1000000) ⌝ }
+    ensures bound { λ r. ⌜ Small 1000000000000 r ⌝ }
+{
+    if exact { floor(-low, size) } else { 1_000_000 }
+}
+
+// The numbers v, of those that a span may hold, for which weight times v is at most high and, if exact, at least low:
+// from the first to the second.
+fn quotients(weight: i32, exact: bool, low: i64, high: i64) -> (i64, i64)
+    requires { ⌜ Weighs weight ⌝ ∗ ⌜ Small 1000000000000 low ⌝ ∗ ⌜ Small 1000000000000 high ⌝ }
+    ensures { λ r. ⌜ ((v : ℤ) → negsuc 999999 ≤ℤ v → v ≤ℤ pos 1000000 → weighed weight exact low high v ≡ between (r .0) (r .1) v) ⌝ }
+{
+    let size = (weight as i64).abs();
+    let above = floor(high, size);
+    let below = depth(exact, low, size);
+    if weight > 0 {
+        (-below, above)
+    } else {
+        (-above, below)
+    }
+}
+
+// The span from `from` to `to`, as far as it is in the row.
+fn clipped(row: SpanRow, from: i64, to: i64) -> Option<Span>
+    requires { ⌜ Stands (row .lo) (row .hi) ⌝ }
+    ensures { λ r. ⌜ Window-of (range (maxZ (row .lo) from) (minZ (row .hi) to)) r ⌝ }
+{
+    let lo = (row.lo as i64).max(from);
+    let hi = (row.hi as i64).min(to);
+    if lo > hi {
+        return None;
+    }
+    Span::from_row(SpanRow {
+        lo: lo as i32,
+        hi: hi as i32,
+    })
+}
+
+// What the other terms leave of the bound: `total` is the sum of all, `own` the term itself.
+fn left_over(bound: i32, total: i64, own: i64) -> i64
+    requires { ⌜ Small 1000000000 bound ⌝ ∗ ⌜ Small 80000000000 total ⌝ ∗ ⌜ Small 10000000000 own ⌝ }
+    ensures value { λ r. ⌜ r ≡ bound -ℤ (total -ℤ own) ⌝ }
+    ensures size { λ r. ⌜ Small 1000000000000 r ⌝ }
+{
+    bound as i64 - (total - own)
+}
+
+// The window of a term as the sum leaves it, none where it leaves no number.
+fn new_window(weight: i32, row: SpanRow, bound: i32, exact: bool, sums: Extremes) -> Option<Span>
+    requires { ⌜ Weighs weight ⌝ ∗ ⌜ Stands (row .lo) (row .hi) ⌝ ∗ ⌜ Small 1000000000 bound ⌝ ∗ ⌜ Small 80000000000 (sums .least) ⌝ ∗ ⌜ Small 80000000000 (sums .greatest) ⌝ }
+    ensures { λ r. ⌜ Window-of (kept-by (weighed weight exact (bound -ℤ (sums .greatest -ℤ greatest-by (λ v. weight *ℤ v) (range (row .lo) (row .hi)))) (bound -ℤ (sums .least -ℤ least-by (λ v. weight *ℤ v) (range (row .lo) (row .hi))))) (range (row .lo) (row .hi))) r ⌝ }
+{
+    let high = left_over(bound, sums.least, least_term(weight, row));
+    let low = left_over(bound, sums.greatest, greatest_term(weight, row));
+    let (from, to) = quotients(weight, exact, low, high);
+    clipped(row, from, to)
+}
+
+// The row of window `at`, if it is there and passes its check.
+fn row_at(rows: &[SpanRow], at: usize) -> Option<SpanRow>
+    ensures { λ r. ⌜ Row-of (window (map span-numbers (now (rows .entry))) at) r ⌝ }
+{
+    if at >= rows.len() {
+        return None;
+    }
+    let row = rows[at];
+    match Span::from_row(row) {
+        Some(_) => Some(row),
+        None => None,
+    }
+}
+
+// The least and the greatest sum of the terms, none where the window of a term is missing.
+fn extremes(terms: &[Term], rows: &[SpanRow]) -> Option<Extremes>
+    requires { ⌜ length (now terms) ≤ 8 ⌝ ∗ ⌜ weights-fit (now terms) ≡ true ⌝ }
+    ensures { λ r. ⌜ Extremes-of (now (terms .entry)) (map span-numbers (now (rows .entry))) r ⌝ }
+{
+    let mut least: i64 = 0;
+    let mut greatest: i64 = 0;
+    for term in terms {
+        let row = row_at(rows, term.window)?;
+        least += least_term(term.weight, row);
+        greatest += greatest_term(term.weight, row);
+    }
+    Some(Extremes { least, greatest })
+}
