@@ -2,3 +2,4 @@ pub mod Signed
 pub mod SumLaws
 pub mod QuestionLaws
 pub mod SumCode
+pub mod SumSteps

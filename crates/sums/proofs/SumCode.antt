@@ -145,11 +145,11 @@ quotients-neg (negsuc n) exact low high size above below h s a b v l =
     q ∙ ap₂ (λ x y. between x y v) (cc) (cc)
 
 -- the ends of a row that is clipped
-pub clipped-ends : (lo hi l h from to : ℤ) → Stands lo hi → l ≡ maxZ lo from → h ≡ minZ hi to → leZ l h ≡ true → Stands l h × (range l h ≡ range (maxZ lo from) (minZ hi to))
+pub clipped-ends : (lo hi l h from to : ℤ) → Stands lo hi → l ≡ maxZ lo from → h ≡ minZ hi to → ltZ h l ≡ false → Stands l h × (range l h ≡ range (maxZ lo from) (minZ hi to))
 clipped-ends lo hi l h from to s e f t = ((omega (arith, ints), omega (arith, ints, clamps), omega (arith, ints, clamps)), ap₂ range e f)
 
-pub clipped-fits : (lo hi l h from to : ℤ) → Stands lo hi → l ≡ maxZ lo from → h ≡ minZ hi to → leZ l h ≡ true → SFits w32 l × SFits w32 h
+pub clipped-fits : (lo hi l h from to : ℤ) → Stands lo hi → l ≡ maxZ lo from → h ≡ minZ hi to → ltZ h l ≡ false → SFits w32 l × SFits w32 h
 clipped-fits lo hi l h from to s e f t = (omega (arith, ints, clamps), omega (arith, ints, clamps))
 
-pub clipped-none : (lo hi l h from to : ℤ) → l ≡ maxZ lo from → h ≡ minZ hi to → leZ l h ≡ false → range (maxZ lo from) (minZ hi to) ≡ []
+pub clipped-none : (lo hi l h from to : ℤ) → l ≡ maxZ lo from → h ≡ minZ hi to → ltZ h l ≡ true → range (maxZ lo from) (minZ hi to) ≡ []
 clipped-none lo hi l h from to e f t = range-none _ _ (subst₂ (λ x y. y <ℤ x) e f (omega (arith, ints)))

@@ -148,7 +148,7 @@ fn row_at(rows: &[SpanRow], at: usize) -> Option<SpanRow>
 }
 
 // The least and the greatest sum of the terms, none where the window of a term is missing.
-fn extremes(terms: &[Term], rows: &[SpanRow]) -> Option<Extremes>
+fn sum_extremes(terms: &[Term], rows: &[SpanRow]) -> Option<Extremes>
     requires { ⌜ length (now terms) ≤ 8 ⌝ ∗ ⌜ weights-fit (now terms) ≡ true ⌝ }
     ensures { λ r. ⌜ Extremes-of (now (terms .entry)) (map span-numbers (now (rows .entry))) r ⌝ }
 {

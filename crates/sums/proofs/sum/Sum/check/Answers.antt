@@ -13,4 +13,4 @@ ghost-result c =
     let f : SFits w32 (c .args .post .bound) = search needs in
     let a = accepted p (c .args .n) (sym (c .in-None .ensures tt)) in
     let k = count-is (p .count) (a .terms) in
-    simp toZ-ofZ (k .0, k .1, below-64 (c .args .n) (given p) (a .windows), a .different, a .weights, a .bounded)
+    simp toZ-ofZ (k .0, (k .1, (below-64 (c .args .n) (given p) (a .windows), (a .different, (a .weights, (a .bounded, tt))))))

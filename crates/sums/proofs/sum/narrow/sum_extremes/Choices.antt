@@ -7,7 +7,7 @@ use Rattle.windows.specs.Rows.{span-numbers}
 use Rattle.sums.specs.Sums.{smallest, largest}
 use Rattle.sums.specs.Sizes.{Small}
 use Rattle.sums.specs.Steps.{all-read}
-use Rattle.sums.proofs.sum.narrow.extremes.Given as given
+use Rattle.sums.proofs.sum.narrow.sum_extremes.Given as given
 
 -- what is left gives the rest
 abbrev pub Inv-loop-term : given.InvT-loop-term

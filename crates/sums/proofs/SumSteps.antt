@@ -1,0 +1,199 @@
+-- The steps of a narrowing by a sum, as numbers and lists.
+use mathlib.Core.Path.{_≡_, refl, sym, ap, ap₂, subst, _∙_}
+use mathlib.Core.List.{List, [], _∷_, map, _++_}
+use mathlib.Core.Logic.{_⊎_, inl, inr}
+use mathlib.Core.Bool.{Bool, true, false, not, cond, _&&_, _||_}
+use Prim.Native.Nat.{ℕ, zero, suc, _+_, _*_, _≤_, _<_}
+use native.Mathlib.Omega.{arith}
+use lib.Dec.{eqb, leb}
+use lib.ListN.{length, getD, drop, take}
+use lib.IntN.{ℤ, pos, negsuc, _+ℤ_, _-ℤ_, _*ℤ_}
+use lib.Signed.{leZ, _≤ℤ_, _<ℤ_}
+use mir.Syntax.{w32, w64}
+use mir.Val.{SFits}
+use Rattle.std.specs.Numbers.{minZ, maxZ}
+use Rattle.std.specs.Options.{Cases}
+use Rattle.std.specs.declared.option.Option.{Option}
+use Rattle.std.specs.declared.option.Option.the-variants.{Some, None}
+use Rattle.std.specs.shelf.Lists.{kept-by, All}
+use Rattle.std.proofs.shelf.Lists.{drop-more, drop-all, take-more, take-all, getD-map, getD-past, length-map}
+use Rattle.std.proofs.shelf.Signed.{ints}
+use Rattle.std.proofs.shelf.Ways.{tells}
+use Rattle.windows.specs.Sets.{range, between, least-by, greatest-by}
+use Rattle.windows.specs.Rows.{Stands, span-stands, span-numbers}
+use Rattle.windows.specs.declared.span.Span.{Span}
+use Rattle.windows.specs.declared.span.SpanRow.{SpanRow}
+use Rattle.windows.proofs.SetLaws.{tests, never, kept-range, range-some}
+use Rattle.windows.proofs.SpanLaws.{row-is, row-none}
+use Rattle.windows.proofs.KindLaws.{not-none}
+use Rattle.rulebook.specs.Tables.{Table, window, filled, all-filled}
+use Rattle.sums.specs.Sums.{term-least, term-greatest, smallest, largest, smallest-but, largest-but, in-terms, weight-at, weighed, sum-passes, sum-new, sum-rule, terms-reach}
+use Rattle.sums.specs.Questions.{Apart, weighs, weights-fit}
+use Rattle.sums.specs.Sizes.{Weighs, Small}
+use Rattle.sums.specs.Steps.{Row-of, Window-of, all-read}
+use Rattle.sums.specs.declared.posted.Term.{Term}
+use Rattle.sums.proofs.SumLaws.{apart-head, apart-tail}
+use Rattle.sums.proofs.QuestionLaws.{no-term, weighs-is}
+
+abbrev pub no-row : SpanRow
+no-row = record { lo = pos 0; hi = pos 0 }
+
+-- ---- rows and windows
+pub window-row : (rows : List SpanRow) (at : ℕ) → at < length rows → window (map span-numbers rows) at ≡ span-numbers (getD rows at no-row)
+window-row rows at h = getD-map span-numbers rows at no-row [] h
+
+pub window-past : (rows : List SpanRow) (at : ℕ) → length rows ≤ at → window (map span-numbers rows) at ≡ []
+window-past rows at h = getD-past (map span-numbers rows) at [] (let l = length-map rows span-numbers in omega arith)
+
+-- a row with the numbers of a span passes its check
+pub row-stands : (row : SpanRow) (lo hi : ℤ) → Stands lo hi → range lo hi ≡ span-numbers row → Stands (row .lo) (row .hi) × (range (row .lo) (row .hi) ≡ span-numbers row)
+row-stands row lo hi s e = go (span-stands row) refl
+  where
+    go : (b : Bool) → span-stands row ≡ b → Stands (row .lo) (row .hi) × (range (row .lo) (row .hi) ≡ span-numbers row)
+    go true q =
+        let a : row .lo ≤ℤ row .hi = grind (arith, ints, tests) in
+        let l : negsuc 999999 ≤ℤ row .lo = grind (arith, ints, tests) in
+        let h : row .hi ≤ℤ pos 1000000 = grind (arith, ints, tests) in
+        ((a, l, h), sym (row-is row a l h))
+    go false q = absurd (not-none (range lo hi) (range-some lo hi (s .0)) (e ∙ row-none row q))
+
+-- the window of a row that passes its check
+pub window-from : (row : SpanRow) (s : List ℤ) (r : Option Span) → Stands (row .lo) (row .hi) → range (row .lo) (row .hi) ≡ s → Cases r (span-numbers row ≡ []) (λ w. range (w .lo) (w .hi) ≡ span-numbers row) → Window-of s r
+window-from row s None t e c = sym e ∙ sym (row-is row (t .0) (t .1) (t .2)) ∙ c
+window-from row s (Some w) t e c = c ∙ row-is row (t .0) (t .1) (t .2) ∙ e
+
+pub weight-fits : (w : ℤ) → Weighs w → SFits w32 w
+weight-fits w f = omega (arith, ints)
+
+pub term-weighs : (ts : List Term) (i : ℕ) → i < length ts → weights-fit ts ≡ true → Weighs (getD ts i no-term .weight)
+term-weighs [] i h e = absurd (omega arith)
+term-weighs (t ∷ ts) zero h e = weighs-is (t .weight) (grind arith)
+term-weighs (t ∷ ts) (suc i) h e = term-weighs ts i (omega arith) (grind arith)
+
+-- ---- the windows of the terms that are left
+filled-is : (s : List ℤ) → 0 < length s → filled s ≡ true
+filled-is [] h = absurd (omega arith)
+filled-is (x ∷ s) h = refl
+
+pub read-none : (T : Table) (t : Term) (ts : List Term) → window T (t .window) ≡ [] → all-read (t ∷ ts) T ≡ false
+read-none T t ts e = rw e refl
+
+pub read-some : (T : Table) (t : Term) (ts : List Term) (lo hi : ℤ) → lo ≤ℤ hi → range lo hi ≡ window T (t .window) → all-read (t ∷ ts) T ≡ all-read ts T
+read-some T t ts lo hi h e = let f : filled (window T (t .window)) ≡ true = subst (λ s. filled s ≡ true) e (filled-is (range lo hi) (range-some lo hi h)) in rw f refl
+
+-- ---- the extremes
+pub least-is : (T : Table) (t : Term) (lo hi x : ℤ) → range lo hi ≡ window T (t .window) → x ≡ least-by (λ v. t .weight *ℤ v) (range lo hi) → x ≡ term-least T t
+least-is T t lo hi x w e = e ∙ ap (least-by (λ v. t .weight *ℤ v)) w
+
+pub greatest-is : (T : Table) (t : Term) (lo hi x : ℤ) → range lo hi ≡ window T (t .window) → x ≡ greatest-by (λ v. t .weight *ℤ v) (range lo hi) → x ≡ term-greatest T t
+greatest-is T t lo hi x w e = e ∙ ap (greatest-by (λ v. t .weight *ℤ v)) w
+
+pub smallest-step : (ts : List Term) (T : Table) (i : ℕ) (d : Term) (a x s : ℤ) → i < length ts → a +ℤ smallest (drop i ts) T ≡ s → x ≡ term-least T (getD ts i d) → (a +ℤ x) +ℤ smallest (drop (i + 1) ts) T ≡ s
+smallest-step ts T i d a x s h e q = let f = ap (λ l. smallest l T) (drop-more ts i d h) in omega (arith, ints)
+
+pub largest-step : (ts : List Term) (T : Table) (i : ℕ) (d : Term) (a x s : ℤ) → i < length ts → a +ℤ largest (drop i ts) T ≡ s → x ≡ term-greatest T (getD ts i d) → (a +ℤ x) +ℤ largest (drop (i + 1) ts) T ≡ s
+largest-step ts T i d a x s h e q = let f = ap (λ l. largest l T) (drop-more ts i d h) in omega (arith, ints)
+
+pub smallest-end : (ts : List Term) (T : Table) (i : ℕ) (a s : ℤ) → length ts ≤ i → a +ℤ smallest (drop i ts) T ≡ s → a ≡ s
+smallest-end ts T i a s h e = let f = ap (λ l. smallest l T) (drop-all i ts h) in omega (arith, ints)
+
+pub largest-end : (ts : List Term) (T : Table) (i : ℕ) (a s : ℤ) → length ts ≤ i → a +ℤ largest (drop i ts) T ≡ s → a ≡ s
+largest-end ts T i a s h e = let f = ap (λ l. largest l T) (drop-all i ts h) in omega (arith, ints)
+
+-- the sums stay small
+pub small-step : (i : ℕ) (a x : ℤ) → Small (10000000000 * i) a → Small 10000000000 x → Small (10000000000 * (i + 1)) (a +ℤ x)
+small-step i a x s t = (omega (arith, ints), omega (arith, ints))
+
+pub small-fits : (i : ℕ) (a x : ℤ) → i < 8 → Small (10000000000 * i) a → Small 10000000000 x → SFits w64 (a +ℤ x)
+small-fits i a x h s t = omega (arith, ints)
+
+pub small-end : (i : ℕ) (a : ℤ) → i ≤ 8 → Small (10000000000 * i) a → Small 80000000000 a
+small-end i a h s = (omega (arith, ints), omega (arith, ints))
+
+-- ---- one window
+pub new-window-is : (w : ℤ) (exact : Bool) (bound least greatest lo hi lt gt low high from to : ℤ) (r : Option Span) → Stands lo hi → lt ≡ least-by (λ v. w *ℤ v) (range lo hi) → gt ≡ greatest-by (λ v. w *ℤ v) (range lo hi) → low ≡ bound -ℤ (greatest -ℤ gt) → high ≡ bound -ℤ (least -ℤ lt) → ((v : ℤ) → negsuc 999999 ≤ℤ v → v ≤ℤ pos 1000000 → weighed w exact low high v ≡ between from to v) → Window-of (range (maxZ lo from) (minZ hi to)) r → Window-of (kept-by (weighed w exact (bound -ℤ (greatest -ℤ greatest-by (λ v. w *ℤ v) (range lo hi))) (bound -ℤ (least -ℤ least-by (λ v. w *ℤ v) (range lo hi)))) (range lo hi)) r
+new-window-is w exact bound least greatest lo hi lt gt low high from to r s lv gv el eh q c =
+    let k : kept-by (weighed w exact low high) (range lo hi) ≡ range (maxZ lo from) (minZ hi to) = kept-range lo hi from to (weighed w exact low high) (λ v l h. q v (omega (arith, ints, s .1)) (omega (arith, ints, s .2))) in
+    let a : low ≡ bound -ℤ (greatest -ℤ greatest-by (λ v. w *ℤ v) (range lo hi)) = el ∙ ap (λ x. bound -ℤ (greatest -ℤ x)) gv in
+    let b : high ≡ bound -ℤ (least -ℤ least-by (λ v. w *ℤ v) (range lo hi)) = eh ∙ ap (λ x. bound -ℤ (least -ℤ x)) lv in
+    subst (λ s. Window-of s r) (sym k ∙ ap₂ (λ x y. kept-by (weighed w exact x y) (range lo hi)) a b) c
+
+-- ---- the sum of the other terms, from that of all
+in-at : (ts : List Term) (i : ℕ) (d : Term) → i < length ts → in-terms ts (getD ts i d .window) ≡ true
+in-at [] i d h = absurd (omega arith)
+in-at (t ∷ ts) zero d h = grind (arith, tells)
+in-at (t ∷ ts) (suc i) d h = let ih = in-at ts i d (omega arith) in grind (arith, tells)
+
+smallest-none : (ts : List Term) (T : Table) (j : ℕ) → in-terms ts j ≡ false → smallest-but ts T j ≡ smallest ts T
+smallest-none [] T j h = refl
+smallest-none (t ∷ ts) T j h = let ih = smallest-none ts T j in grind (arith, tells)
+
+largest-none : (ts : List Term) (T : Table) (j : ℕ) → in-terms ts j ≡ false → largest-but ts T j ≡ largest ts T
+largest-none [] T j h = refl
+largest-none (t ∷ ts) T j h = let ih = largest-none ts T j in grind (arith, tells)
+
+apart-at : (t : Term) (ts : List Term) (i : ℕ) (d : Term) → i < length ts → in-terms ts (t .window) ≡ false → eqb (t .window) (getD ts i d .window) ≡ false
+apart-at t ts i d h a = let k = in-at ts i d h in grind (arith, tells)
+
+smallest-rest : (ts : List Term) (T : Table) (i : ℕ) (d : Term) → i < length ts → Apart ts → smallest-but ts T (getD ts i d .window) ≡ smallest ts T -ℤ term-least T (getD ts i d)
+smallest-rest [] T i d h a = absurd (omega arith)
+smallest-rest (t ∷ ts) T zero d h a =
+    let o : eqb (t .window) (t .window) ≡ true = grind (arith, tells) in
+    let e = smallest-none ts T (t .window) (apart-head t ts a) in
+    rw o (e ∙ omega (arith, ints))
+smallest-rest (t ∷ ts) T (suc i) d h a =
+    let o = apart-at t ts i d (omega arith) (apart-head t ts a) in
+    let ih = smallest-rest ts T i d (omega arith) (apart-tail t ts a) in
+    rw o (omega (arith, ints))
+
+largest-rest : (ts : List Term) (T : Table) (i : ℕ) (d : Term) → i < length ts → Apart ts → largest-but ts T (getD ts i d .window) ≡ largest ts T -ℤ term-greatest T (getD ts i d)
+largest-rest [] T i d h a = absurd (omega arith)
+largest-rest (t ∷ ts) T zero d h a =
+    let o : eqb (t .window) (t .window) ≡ true = grind (arith, tells) in
+    let e = largest-none ts T (t .window) (apart-head t ts a) in
+    rw o (e ∙ omega (arith, ints))
+largest-rest (t ∷ ts) T (suc i) d h a =
+    let o = apart-at t ts i d (omega arith) (apart-head t ts a) in
+    let ih = largest-rest ts T i d (omega arith) (apart-tail t ts a) in
+    rw o (omega (arith, ints))
+
+weight-is : (ts : List Term) (i : ℕ) (d : Term) → i < length ts → Apart ts → weight-at ts (getD ts i d .window) ≡ getD ts i d .weight
+weight-is [] i d h a = absurd (omega arith)
+weight-is (t ∷ ts) zero d h a = let o : eqb (t .window) (t .window) ≡ true = grind (arith, tells) in rw o refl
+weight-is (t ∷ ts) (suc i) d h a = let o = apart-at t ts i d (omega arith) (apart-head t ts a) in rw o (weight-is ts i d (omega arith) (apart-tail t ts a))
+
+-- the new window of a term, from the extremes of all
+pub term-new : (ts : List Term) (b : ℤ) (exact : Bool) (T : Table) (i : ℕ) (d : Term) → i < length ts → Apart ts → sum-new ts b exact T (getD ts i d .window) ≡ kept-by (weighed (getD ts i d .weight) exact (b -ℤ (largest ts T -ℤ term-greatest T (getD ts i d))) (b -ℤ (smallest ts T -ℤ term-least T (getD ts i d)))) (window T (getD ts i d .window))
+unfolding sum-new sum-passes
+term-new ts b exact T i d h a =
+    let o = in-at ts i d h in
+    let x = smallest-rest ts T i d h a in
+    let y = largest-rest ts T i d h a in
+    let w = weight-is ts i d h a in
+    let W = window T (getD ts i d .window) in
+    rw o (ap (λ z. kept-by (weighed z exact (b -ℤ largest-but ts T (getD ts i d .window)) (b -ℤ smallest-but ts T (getD ts i d .window))) W) w ∙ ap₂ (λ g l. kept-by (weighed (getD ts i d .weight) exact (b -ℤ g) (b -ℤ l)) W) y x)
+
+-- the same, at the row that holds the window
+pub row-new : (ts : List Term) (b : ℤ) (exact : Bool) (T : Table) (i : ℕ) (d : Term) (least greatest lo hi : ℤ) → i < length ts → Apart ts → least ≡ smallest ts T → greatest ≡ largest ts T → window T (getD ts i d .window) ≡ range lo hi → kept-by (weighed (getD ts i d .weight) exact (b -ℤ (greatest -ℤ greatest-by (λ v. getD ts i d .weight *ℤ v) (range lo hi))) (b -ℤ (least -ℤ least-by (λ v. getD ts i d .weight *ℤ v) (range lo hi)))) (range lo hi) ≡ sum-new ts b exact T (getD ts i d .window)
+row-new ts b exact T i d least greatest lo hi h a el eg ew =
+    ap (λ s. kept-by (weighed (getD ts i d .weight) exact (b -ℤ (greatest -ℤ greatest-by (λ v. getD ts i d .weight *ℤ v) s)) (b -ℤ (least -ℤ least-by (λ v. getD ts i d .weight *ℤ v) s))) s) (sym ew)
+    ∙ ap₂ (λ g l. kept-by (weighed (getD ts i d .weight) exact (b -ℤ (g -ℤ term-greatest T (getD ts i d))) (b -ℤ (l -ℤ term-least T (getD ts i d)))) (window T (getD ts i d .window))) eg el
+    ∙ sym (term-new ts b exact T i d h a)
+
+-- ---- the terms so far
+pub in-more : (ts : List Term) (i : ℕ) (d : Term) (j : ℕ) → i < length ts → in-terms (take (i + 1) ts) j ≡ (in-terms (take i ts) j || eqb (getD ts i d .window) j)
+in-more ts i d j h = ap (λ l. in-terms l j) (take-more ts i d h) ∙ push (take i ts) (getD ts i d)
+  where
+    push : (l : List Term) (t : Term) → in-terms (l ++ t ∷ []) j ≡ (in-terms l j || eqb (t .window) j)
+    push [] t = grind (arith, tells)
+    push (u ∷ l) t = let ih = push l t in grind (arith, tells)
+
+pub in-all : (ts : List Term) (i j : ℕ) → length ts ≤ i → in-terms (take i ts) j ≡ in-terms ts j
+in-all ts i j h = ap (λ l. in-terms l j) (take-all i ts h)
+
+-- a term's window stands in no earlier term
+pub fresh : (ts : List Term) (i : ℕ) (d : Term) → i < length ts → Apart ts → in-terms (take i ts) (getD ts i d .window) ≡ false
+fresh [] i d h a = absurd (omega arith)
+fresh (t ∷ ts) zero d h a = refl
+fresh (t ∷ ts) (suc i) d h a = let ih = fresh ts i d (omega arith) (apart-tail t ts a) in let o = apart-at t ts i d (omega arith) (apart-head t ts a) in grind (arith, tells)
+
