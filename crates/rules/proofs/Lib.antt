@@ -1,1 +1,2 @@
 pub mod PointwiseLaws
+pub mod WritingLaws

@@ -1,1 +1,2 @@
 pub mod Pointwise
+pub mod Writing

@@ -1,4 +1,6 @@
 // Rules that are given window by window, and books as lists of such rules.
-pub fn nothing() -> u8 {
-    0
-}
+mod new_windows;
+
+pub use new_windows::all_windows;
+pub use new_windows::NewWindow;
+pub use new_windows::NewWindows;

@@ -1,0 +1,10 @@
+use mathlib.Core.Path.{_≡_}
+use mathlib.Core.List.{map}
+use lib.ListN.{drop, take}
+use Rattle.rules.specs.Pointwise.{has-entry}
+use Rattle.rules.specs.Writing.{entry, listed}
+use Rattle.rules.proofs.new_windows.NewWindows.has.Given as given
+
+-- what is left decides
+abbrev pub Inv-loop-i : given.InvT-loop-i
+Inv-loop-i g l = has-entry (drop (l .i) (listed (g .W·Window .numbers) (l .self .items) (l .self .len))) (l .j) ≡ has-entry (listed (g .W·Window .numbers) (l .self .items) (l .self .len)) (l .j)
