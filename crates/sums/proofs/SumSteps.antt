@@ -3,9 +3,9 @@ use mathlib.Core.Path.{_≡_, refl, sym, ap, ap₂, subst, _∙_}
 use mathlib.Core.List.{List, [], _∷_, map, _++_}
 use mathlib.Core.Logic.{_⊎_, inl, inr}
 use mathlib.Core.Bool.{Bool, true, false, not, cond, _&&_, _||_}
-use Prim.Native.Nat.{ℕ, zero, suc, _+_, _*_, _≤_, _<_}
+use Prim.Native.Nat.{ℕ, zero, suc, min, _+_, _*_, _≤_, _<_}
 use native.Mathlib.Omega.{arith}
-use lib.Dec.{eqb, leb}
+use lib.Dec.{eqb, leb, ltb}
 use lib.ListN.{length, getD, drop, take}
 use lib.IntN.{ℤ, pos, negsuc, _+ℤ_, _-ℤ_, _*ℤ_}
 use lib.Signed.{leZ, _≤ℤ_, _<ℤ_}
@@ -16,7 +16,7 @@ use Rattle.std.specs.Options.{Cases}
 use Rattle.std.specs.declared.option.Option.{Option}
 use Rattle.std.specs.declared.option.Option.the-variants.{Some, None}
 use Rattle.std.specs.shelf.Lists.{kept-by, All}
-use Rattle.std.proofs.shelf.Lists.{drop-more, drop-all, take-more, take-all, getD-map, getD-past, length-map}
+use Rattle.std.proofs.shelf.Lists.{drop-more, drop-all, take-more, take-all, getD-map, getD-past, length-map, length-take}
 use Rattle.std.proofs.shelf.Signed.{ints}
 use Rattle.std.proofs.shelf.Ways.{tells}
 use Rattle.windows.specs.Sets.{range, between, least-by, greatest-by}
@@ -27,12 +27,21 @@ use Rattle.windows.proofs.SetLaws.{tests, never, kept-range, range-some}
 use Rattle.windows.proofs.SpanLaws.{row-is, row-none}
 use Rattle.windows.proofs.KindLaws.{not-none}
 use Rattle.rulebook.specs.Tables.{Table, window, filled, all-filled}
+use Rattle.rulebook.specs.Rules.{narrowed}
+use Rattle.rulebook.specs.Answers.{outcome, member, Tells}
+use Rattle.rulebook.specs.declared.answer.Narrowing.{Narrowing}
+use Rattle.rulebook.specs.declared.answer.Narrowing.the-variants.{Changed}
+use Rattle.rulebook.specs.declared.set.WindowSet.{WindowSet}
+use Rattle.rules.specs.Pointwise.{rule-of, Entry, has-entry, replaced, judged, narrow-by, make-all, written}
+use Rattle.rules.specs.Writing.{numbers-of, pushed}
+use Rattle.rules.proofs.PointwiseLaws.{replaced-made}
+use Rattle.rules.proofs.WritingLaws.{some-filled, full-window, same-window}
 use Rattle.sums.specs.Sums.{term-least, term-greatest, smallest, largest, smallest-but, largest-but, in-terms, weight-at, weighed, sum-passes, sum-new, sum-rule, terms-reach}
-use Rattle.sums.specs.Questions.{Apart, weighs, weights-fit}
+use Rattle.sums.specs.Questions.{windows-below, Apart, weighs, weights-fit}
 use Rattle.sums.specs.Sizes.{Weighs, Small}
-use Rattle.sums.specs.Steps.{Row-of, Window-of, all-read}
+use Rattle.sums.specs.Steps.{Row-of, Window-of, all-read, Fit, entries}
 use Rattle.sums.specs.declared.posted.Term.{Term}
-use Rattle.sums.proofs.SumLaws.{apart-head, apart-tail}
+use Rattle.sums.proofs.SumLaws.{apart-head, apart-tail, sum-unread}
 use Rattle.sums.proofs.QuestionLaws.{no-term, weighs-is}
 
 abbrev pub no-row : SpanRow
@@ -71,15 +80,11 @@ term-weighs (t ∷ ts) zero h e = weighs-is (t .weight) (grind arith)
 term-weighs (t ∷ ts) (suc i) h e = term-weighs ts i (omega arith) (grind arith)
 
 -- ---- the windows of the terms that are left
-filled-is : (s : List ℤ) → 0 < length s → filled s ≡ true
-filled-is [] h = absurd (omega arith)
-filled-is (x ∷ s) h = refl
-
 pub read-none : (T : Table) (t : Term) (ts : List Term) → window T (t .window) ≡ [] → all-read (t ∷ ts) T ≡ false
 read-none T t ts e = rw e refl
 
 pub read-some : (T : Table) (t : Term) (ts : List Term) (lo hi : ℤ) → lo ≤ℤ hi → range lo hi ≡ window T (t .window) → all-read (t ∷ ts) T ≡ all-read ts T
-read-some T t ts lo hi h e = let f : filled (window T (t .window)) ≡ true = subst (λ s. filled s ≡ true) e (filled-is (range lo hi) (range-some lo hi h)) in rw f refl
+read-some T t ts lo hi h e = let f : filled (window T (t .window)) ≡ true = subst (λ s. filled s ≡ true) e (some-filled (range lo hi) (range-some lo hi h)) in rw f refl
 
 -- ---- the extremes
 pub least-is : (T : Table) (t : Term) (lo hi x : ℤ) → range lo hi ≡ window T (t .window) → x ≡ least-by (λ v. t .weight *ℤ v) (range lo hi) → x ≡ term-least T t
@@ -197,3 +202,91 @@ fresh [] i d h a = absurd (omega arith)
 fresh (t ∷ ts) zero d h a = refl
 fresh (t ∷ ts) (suc i) d h a = let ih = fresh ts i d (omega arith) (apart-tail t ts a) in let o = apart-at t ts i d (omega arith) (apart-head t ts a) in grind (arith, tells)
 
+
+-- ---- the list of new windows
+pub numbers-window : (s : List ℤ) (r : Option Span) → Window-of s r → numbers-of (λ w. range (w .lo) (w .hi)) r ≡ s
+numbers-window s None e = sym e
+numbers-window s (Some w) e = e
+
+pub term-below : (n : ℕ) (ts : List Term) (i : ℕ) → i < length ts → windows-below n ts ≡ true → getD ts i no-term .window < n
+term-below n [] i h e = absurd (omega arith)
+term-below n (t ∷ ts) zero h e = grind (arith, tells)
+term-below n (t ∷ ts) (suc i) h e = term-below n ts i (omega arith) (grind arith)
+
+has-entries : (f : ℕ → List ℤ) (ts : List Term) (j : ℕ) → has-entry (entries f ts) j ≡ in-terms ts j
+has-entries f [] j = refl
+has-entries f (t ∷ ts) j = ap (λ b. eqb (t .window) j || b) (has-entries f ts j)
+
+entries-snoc : (f : ℕ → List ℤ) (ts : List Term) (t : Term) → entries f (ts ++ (t ∷ [])) ≡ entries f ts ++ (record { at = t .window; new = f (t .window) } ∷ [])
+entries-snoc f [] t = refl
+entries-snoc f (u ∷ ts) t = ap (λ l. record { at = u .window; new = f (u .window) } ∷ l) (entries-snoc f ts t)
+
+-- one term more is one entry more
+pub entries-more : (f : ℕ → List ℤ) (ts : List Term) (i : ℕ) (es es′ : List Entry) (new : List ℤ) → Fit ts → i < length ts → es ≡ entries f (take i ts) → new ≡ f (getD ts i no-term .window) → es′ ≡ pushed es (record { at = getD ts i no-term .window; new = new }) → es′ ≡ entries f (take (i + 1) ts)
+entries-more f ts i es es′ new fit h e n p =
+    let t = getD ts i no-term in
+    let k = ap length e ∙ length-map (take i ts) (λ u. record { at = u .window; new = f (u .window) }) ∙ length-take i ts in
+    let l : ltb (length es) 8 ≡ true = room (length es) (length ts) i k h (fit .few) in
+    let b : ltb (t .window) 64 ≡ true = below (t .window) 64 (term-below 64 ts i h (fit .near)) in
+    let d : has-entry es (t .window) ≡ false = ap (λ l. has-entry l (t .window)) e ∙ has-entries f (take i ts) (t .window) ∙ fresh ts i no-term h (fit .different) in
+    p ∙ pushed-yes es (record { at = t .window; new = new }) l b d ∙ ap₂ (λ l x. l ++ (record { at = t .window; new = x } ∷ [])) e n ∙ sym (entries-snoc f (take i ts) t) ∙ sym (ap (entries f) (take-more ts i no-term h))
+  where
+    below : (m n : ℕ) → m < n → ltb m n ≡ true
+    below m n h = grind (arith, tells)
+
+    room : (m n i : ℕ) → m ≡ min i n → i < n → n ≤ 8 → ltb m 8 ≡ true
+    room m n i e h k = below m 8 (omega arith)
+
+    pushed-yes : (es : List Entry) (x : Entry) → ltb (length es) 8 ≡ true → ltb (x .at) 64 ≡ true → has-entry es (x .at) ≡ false → pushed es x ≡ es ++ (x ∷ [])
+    pushed-yes es x a b d = rw (a, b, d) refl
+
+-- ---- the outcome
+pub read-at : (T : Table) (ts : List Term) (i : ℕ) → i < length ts → all-read ts T ≡ true → window T (getD ts i no-term .window) ≡ [] → ⊥
+read-at T [] i h a e = absurd (omega arith)
+read-at T (t ∷ ts) zero h a e = never (sym (read-none T t ts e) ∙ a)
+read-at T (t ∷ ts) (suc i) h a e = read-at T ts i (omega arith) (grind arith) e
+
+filled-below : (T : Table) (j : ℕ) → filled (window T j) ≡ true → j < length T
+filled-below [] j e = never e
+filled-below (s ∷ T) zero e = omega arith
+filled-below (s ∷ T) (suc j) e = let ih = filled-below T j e in omega arith
+
+read-reach : (T : Table) (ts : List Term) → all-read ts T ≡ true → terms-reach ts ≤ length T
+read-reach T [] a = omega arith
+read-reach T (t ∷ ts) a = let f : filled (window T (t .window)) ≡ true = grind arith in let ih = read-reach T ts (grind arith) in let b = filled-below T (t .window) f in omega arith
+
+reach-read : (T : Table) (ts : List Term) → all-filled T ≡ true → terms-reach ts ≤ length T → all-read ts T ≡ true
+reach-read T [] a h = refl
+reach-read T (t ∷ ts) a h = let f = full-window T a (t .window) (omega arith) in let ih = reach-read T ts a (omega arith) in rw (f, ih) refl
+
+-- where the window of a term is missing, nothing is done
+pub unread-outcome : (ts : List Term) (b : ℤ) (exact : Bool) (T : Table) → all-read ts T ≡ false → outcome (rule-of (sum-rule ts b exact)) T ≡ narrowed T
+unread-outcome ts b exact T e = go (all-filled T) refl (leb (terms-reach ts) (length T)) refl
+  where
+    go : (f : Bool) → all-filled T ≡ f → (r : Bool) → leb (terms-reach ts) (length T) ≡ r → cond f (cond r (narrow-by (sum-new ts b exact) T) (narrowed T)) (narrowed T) ≡ narrowed T
+    go false q r s = refl
+    go true q false s = refl
+    go true q true s = let h : terms-reach ts ≤ length T = grind (arith, tells) in never (sym e ∙ reach-read T ts q h)
+
+entries-hold : (f : ℕ → List ℤ) (ts : List Term) → All (λ e. e .new ≡ f (e .at)) (entries f ts)
+entries-hold f [] = tt
+entries-hold f (t ∷ ts) = (refl, entries-hold f ts)
+
+-- the entries of all terms make the outcome of the rule
+pub entries-outcome : (ts : List Term) (b : ℤ) (exact : Bool) (T : Table) → all-read ts T ≡ true → written T (entries (sum-new ts b exact T) ts) ≡ outcome (rule-of (sum-rule ts b exact)) T
+unfolding narrow-by
+entries-outcome ts b exact T e =
+    let f = sum-new ts b exact T in
+    let k = read-reach T ts e in
+    let r : leb (terms-reach ts) (length T) ≡ true = grind (arith, tells) in
+    let m = replaced-made (sum-new ts b exact) T (entries f ts) (entries-hold f ts) (λ j h q. sym (sum-unread ts b exact T j (sym (has-entries f ts j) ∙ q))) in
+    ap (λ U. cond (all-filled T) (judged U) (narrowed T)) m ∙ sym (ap (λ t. cond (all-filled T) (cond t (narrow-by (sum-new ts b exact) T) (narrowed T)) (narrowed T)) r)
+
+-- what a narrowing tells, by the terms xs that it was computed from
+pub tells-some : (xs : List Term) (b : ℤ) (exact : Bool) (T U : Table) (es : List Entry) (r : Narrowing) (ts : List Term) → xs ≡ ts → all-read xs T ≡ true → es ≡ entries (sum-new xs b exact T) xs → Tells T (written T es) r U → Tells T (outcome (rule-of (sum-rule ts b exact)) T) r U
+tells-some xs b exact T U es r ts q a e t =
+    subst (λ l. Tells T (outcome (rule-of (sum-rule l b exact)) T) r U) q (subst (λ o. Tells T o r U) (ap (written T) e ∙ entries-outcome xs b exact T a) t)
+
+pub tells-none : (xs : List Term) (b : ℤ) (exact : Bool) (T : Table) (ts : List Term) (s : WindowSet) → xs ≡ ts → all-read xs T ≡ false → ((j : ℕ) → member s j ≡ false) → Tells T (outcome (rule-of (sum-rule ts b exact)) T) (Changed s) T
+tells-none xs b exact T ts s q a e =
+    subst (λ l. Tells T (outcome (rule-of (sum-rule l b exact)) T) (Changed s) T) q (subst (λ o. Tells T o (Changed s) T) (sym (unread-outcome xs b exact T a)) (refl, λ j. e j ∙ sym (same-window T j)))

@@ -2,20 +2,25 @@
 ghost use mathlib.Core.Path.{_≡_};
 ghost use mathlib.Core.Bool.{true, cond};
 ghost use mathlib.Core.List.{map};
-ghost use Prim.Native.Nat.{ℕ, _≤_};
-ghost use lib.ListN.{length};
 ghost use lib.IntN.{ℤ, pos, negsuc, negℤ, _-ℤ_, _*ℤ_};
 ghost use lib.Signed.{_≤ℤ_};
+ghost use Rattle.std.specs.declared.option.Option.the-variants.{Some};
 ghost use Rattle.std.specs.Numbers.{minZ, maxZ, divEuclid};
 ghost use Rattle.std.specs.shelf.Lists.{kept-by};
 ghost use Rattle.windows.specs.Sets.{range, between, least-by, greatest-by};
 ghost use Rattle.windows.specs.Rows.{Stands, span-numbers};
 ghost use Rattle.rulebook.specs.Tables.{window};
-ghost use Rattle.sums.specs.Sums.{weighed};
-ghost use Rattle.sums.specs.Questions.{weights-fit};
+ghost use Rattle.rulebook.specs.Answers.{outcome, Tells, Rows-kept};
+ghost use Rattle.sums.specs.Sums.{weighed, sum-new};
+ghost use Rattle.sums.specs.Questions.{bound-fits};
+ghost use Rattle.sums.specs.Meaning.{sum-meaning};
 ghost use Rattle.sums.specs.Sizes.{Weighs, Small};
-ghost use Rattle.sums.specs.Steps.{Row-of, Window-of, Extremes-of};
+ghost use Rattle.sums.specs.Steps.{Row-of, Window-of, Extremes-of, Fit, entries, new-entries};
 use crate::posted::Term;
+use crate::sum::Sum;
+use rulebook::Narrowing;
+use rulebook::WindowSet;
+use rules::NewWindows;
 use windows::Span;
 use windows::SpanRow;
 use windows::SpanWindow;
@@ -149,7 +154,7 @@ fn row_at(rows: &[SpanRow], at: usize) -> Option<SpanRow>
 
 // The least and the greatest sum of the terms, none where the window of a term is missing.
 fn sum_extremes(terms: &[Term], rows: &[SpanRow]) -> Option<Extremes>
-    requires { ⌜ length (now terms) ≤ 8 ⌝ ∗ ⌜ weights-fit (now terms) ≡ true ⌝ }
+    requires { ⌜ Fit (now terms) ⌝ }
     ensures { λ r. ⌜ Extremes-of (now (terms .entry)) (map span-numbers (now (rows .entry))) r ⌝ }
 {
     let mut least: i64 = 0;
@@ -160,4 +165,41 @@ fn sum_extremes(terms: &[Term], rows: &[SpanRow]) -> Option<Extremes>
         greatest += greatest_term(term.weight, row);
     }
     Some(Extremes { least, greatest })
+}
+
+// The new windows of the terms, all made from the old rows.
+fn new_windows(
+    terms: &[Term],
+    bound: i32,
+    exact: bool,
+    sums: Extremes,
+    rows: &[SpanRow],
+) -> NewWindows<Span>
+    requires { ⌜ Fit (now terms) ⌝ ∗ ⌜ bound-fits bound ≡ true ⌝ ∗ ⌜ Extremes-of (now terms) (map span-numbers (now rows)) (Some sums) ⌝ }
+    ensures { λ r. ⌜ new-entries r ≡ entries (sum-new (now (terms .entry)) bound exact (map span-numbers (now (rows .entry)))) (now (terms .entry)) ⌝ }
+{
+    let mut new = NewWindows::<Span>::new();
+    for term in terms {
+        if let Some(row) = row_at(rows, term.window) {
+            new.push(
+                term.window,
+                new_window(term.weight, row, bound, exact, sums),
+            );
+        }
+    }
+    new
+}
+
+impl Sum {
+    // Narrows the rows by the sum. A sum that reads beyond the rows, and rows of which one fails its check, change nothing.
+    pub fn narrow(&self, rows: &mut [SpanRow]) -> Narrowing
+        ensures equation { λ r. ⌜ Tells (map span-numbers (now (rows .entry))) (outcome (sum-meaning (now (self .entry))) (map span-numbers (now (rows .entry)))) r (map span-numbers (now (rows .exit))) ⌝ }
+        ensures rows { λ r. ⌜ Rows-kept r (now (rows .entry)) (now (rows .exit)) ⌝ }
+    {
+        let terms = &self.terms[0..self.len];
+        match sum_extremes(terms, rows) {
+            Some(sums) => new_windows(terms, self.bound, self.exact, sums, rows).write(rows),
+            None => Narrowing::Changed(WindowSet::empty()),
+        }
+    }
 }

@@ -24,13 +24,13 @@ returns-in-Break-row c =
 
 pub least-term-least-requires : need.least-term-least-requires
 least-term-least-requires c κs =
-    let w = term-weighs (c .args .terms .now) (c .loop-term .term-index) (c .loop-term-test .taken) (c .pre .1) in
+    let w = term-weighs (c .args .terms .now) (c .loop-term .term-index) (c .loop-term-test .taken) (c .pre .weights) in
     let f = weight-fits _ w in
     (simp toZ-ofZ w, c .in-Continue-row .ensures tt .0)
 
 pub greatest-term-greatest-requires : need.greatest-term-greatest-requires
 greatest-term-greatest-requires c κs =
-    let w = term-weighs (c .args .terms .now) (c .loop-term .term-index) (c .loop-term-test .taken) (c .pre .1) in
+    let w = term-weighs (c .args .terms .now) (c .loop-term .term-index) (c .loop-term-test .taken) (c .pre .weights) in
     let f = weight-fits _ w in
     (simp toZ-ofZ w, c .in-Continue-row .ensures tt .0)
 
@@ -42,8 +42,8 @@ loop-term-again c =
     let t = getD ts i no-term in
     let row = c .in-Continue-row .row in
     let r = c .in-Continue-row .ensures tt in
-    let h : i < 8 = omega (arith, c .pre .0, c .loop-term-test .taken) in
-    let w = term-weighs ts i (c .loop-term-test .taken) (c .pre .1) in
+    let h : i < 8 = omega (arith, c .pre .few, c .loop-term-test .taken) in
+    let w = term-weighs ts i (c .loop-term-test .taken) (c .pre .weights) in
     let fw = weight-fits _ w in
     let kl = fits-lo _ _ (r .0) in
     let kh = fits-hi _ _ (r .0) in
@@ -63,5 +63,5 @@ returns c =
     let T = map span-numbers (c .args .rows .now) in
     let i = c .loop-term .term-index in
     let h = c .loop-term-test .left in
-    let k : i ≤ 8 = omega (arith, c .pre .0, c .loop-term .kept .term-index-end) in
+    let k : i ≤ 8 = omega (arith, c .pre .few, c .loop-term .kept .term-index-end) in
     (sym (ended (λ l. all-read l T) ts i (c .loop-term .inv .0) h), smallest-end ts T i _ _ h (c .loop-term .inv .1), largest-end ts T i _ _ h (c .loop-term .inv .2), small-end i _ k (c .loop-term .inv .3), small-end i _ k (c .loop-term .inv .4))
