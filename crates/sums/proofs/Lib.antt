@@ -1,4 +1,5 @@
 pub mod Signed
+pub mod Totals
 pub mod SumLaws
 pub mod QuestionLaws
 pub mod SumCode

@@ -21,9 +21,7 @@ use Rattle.sums.specs.Questions.{terms-fit, windows-below, apart, weighs, weig
 use Rattle.sums.specs.Sizes.{Weighs, Small}
 use Rattle.sums.specs.declared.posted.Term.{Term}
 use Rattle.sums.specs.declared.posted.PostedSum.{PostedSum}
-
-abbrev pub no-term : Term
-no-term = record { window = 0; weight = pos 0 }
+use Rattle.sums.proofs.Totals.{no-term}
 
 -- ---- a loop whose answer F is the same at the terms that are left
 module _ (F : List Term → Bool) (ts : List Term) (i : ℕ) (same : F (drop i ts) ≡ F ts) where

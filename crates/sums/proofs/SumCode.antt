@@ -31,21 +31,32 @@ times-small (pos a) (negsuc b) w s = let m = size-bound a (suc b) (omega (arith,
 times-small (negsuc a) (pos b) w s = let m = size-bound (suc a) b (omega (arith, ints)) (omega (arith, ints)) in (omega (arith, ints), omega (arith, ints))
 times-small (negsuc a) (negsuc b) w s = let m = size-bound (suc a) (suc b) (omega (arith, ints)) (omega (arith, ints)) in (omega (arith, ints), omega (arith, ints))
 
-pub least-up : (w lo hi : ℤ) → pos 0 ≤ℤ w → lo ≤ℤ hi → least-by (λ v. w *ℤ v) (range lo hi) ≡ w *ℤ lo
-least-up (pos n) lo hi p h = least-range (λ v. pos n *ℤ v) lo hi (pos n *ℤ lo) h (λ v l g. mul-up n lo v l) lo (omega (arith, ints)) h refl
-least-up (negsuc n) lo hi p h = absurd (omega (arith, ints))
+min-left : (x y : ℤ) → x ≤ℤ y → minZ x y ≡ x
+min-left x y h = omega (arith, ints, clamps)
 
-pub least-down : (w lo hi : ℤ) → w <ℤ pos 0 → lo ≤ℤ hi → least-by (λ v. w *ℤ v) (range lo hi) ≡ w *ℤ hi
-least-down (pos n) lo hi p h = absurd (omega (arith, ints))
-least-down (negsuc n) lo hi p h = least-range (λ v. negsuc n *ℤ v) lo hi (negsuc n *ℤ hi) h (λ v l g. mul-down n v hi g) hi h (omega (arith, ints)) refl
+min-right : (x y : ℤ) → y ≤ℤ x → minZ x y ≡ y
+min-right x y h = omega (arith, ints, clamps)
 
-pub greatest-down : (w lo hi : ℤ) → w <ℤ pos 0 → lo ≤ℤ hi → greatest-by (λ v. w *ℤ v) (range lo hi) ≡ w *ℤ lo
-greatest-down (pos n) lo hi p h = absurd (omega (arith, ints))
-greatest-down (negsuc n) lo hi p h = greatest-range (λ v. negsuc n *ℤ v) lo hi (negsuc n *ℤ lo) h (λ v l g. mul-down n lo v l) lo (omega (arith, ints)) h refl
+max-left : (x y : ℤ) → y ≤ℤ x → maxZ x y ≡ x
+max-left x y h = omega (arith, ints, clamps)
 
-pub greatest-up : (w lo hi : ℤ) → pos 0 ≤ℤ w → lo ≤ℤ hi → greatest-by (λ v. w *ℤ v) (range lo hi) ≡ w *ℤ hi
-greatest-up (pos n) lo hi p h = greatest-range (λ v. pos n *ℤ v) lo hi (pos n *ℤ hi) h (λ v l g. mul-up n v hi g) hi h (omega (arith, ints)) refl
-greatest-up (negsuc n) lo hi p h = absurd (omega (arith, ints))
+max-right : (x y : ℤ) → x ≤ℤ y → maxZ x y ≡ y
+max-right x y h = omega (arith, ints, clamps)
+
+-- the least and the greatest product stand at the ends
+pub least-ends : (w lo hi : ℤ) → lo ≤ℤ hi → least-by (λ v. w *ℤ v) (range lo hi) ≡ minZ (w *ℤ lo) (w *ℤ hi)
+least-ends (pos n) lo hi h = least-range (λ v. pos n *ℤ v) lo hi (pos n *ℤ lo) h (λ v l g. mul-up n lo v l) lo (omega (arith, ints)) h refl ∙ sym (min-left _ _ (mul-up n lo hi h))
+least-ends (negsuc n) lo hi h = least-range (λ v. negsuc n *ℤ v) lo hi (negsuc n *ℤ hi) h (λ v l g. mul-down n v hi g) hi h (omega (arith, ints)) refl ∙ sym (min-right _ _ (mul-down n lo hi h))
+
+pub greatest-ends : (w lo hi : ℤ) → lo ≤ℤ hi → greatest-by (λ v. w *ℤ v) (range lo hi) ≡ maxZ (w *ℤ lo) (w *ℤ hi)
+greatest-ends (pos n) lo hi h = greatest-range (λ v. pos n *ℤ v) lo hi (pos n *ℤ hi) h (λ v l g. mul-up n v hi g) hi h (omega (arith, ints)) refl ∙ sym (max-right _ _ (mul-up n lo hi h))
+greatest-ends (negsuc n) lo hi h = greatest-range (λ v. negsuc n *ℤ v) lo hi (negsuc n *ℤ lo) h (λ v l g. mul-down n lo v l) lo (omega (arith, ints)) h refl ∙ sym (max-left _ _ (mul-down n lo hi h))
+
+pub min-small : (b : ℕ) (x y : ℤ) → Small b x → Small b y → Small b (minZ x y)
+min-small b x y s t = (omega (arith, ints, clamps), omega (arith, ints, clamps))
+
+pub max-small : (b : ℕ) (x y : ℤ) → Small b x → Small b y → Small b (maxZ x y)
+max-small b x y s t = (omega (arith, ints, clamps), omega (arith, ints, clamps))
 
 -- ---- quotients, rounded down
 pub times-neg : (m : ℕ) (v : ℤ) → pos m *ℤ negℤ v ≡ negℤ (pos m *ℤ v)

@@ -41,8 +41,9 @@ use Rattle.sums.specs.Questions.{windows-below, Apart, weighs, weights-fit}
 use Rattle.sums.specs.Sizes.{Weighs, Small}
 use Rattle.sums.specs.Steps.{Row-of, Window-of, all-read, Fit, entries}
 use Rattle.sums.specs.declared.posted.Term.{Term}
-use Rattle.sums.proofs.SumLaws.{apart-head, apart-tail, sum-unread}
-use Rattle.sums.proofs.QuestionLaws.{no-term, weighs-is}
+use Rattle.sums.proofs.SumLaws.{sum-unread}
+use Rattle.sums.proofs.QuestionLaws.{weighs-is}
+use Rattle.sums.proofs.Totals.{no-term, in-at, fresh, weight-is, but-rest}
 
 abbrev pub no-row : SpanRow
 no-row = record { lo = pos 0; hi = pos 0 }
@@ -93,18 +94,6 @@ least-is T t lo hi x w e = e ∙ ap (least-by (λ v. t .weight *ℤ v)) w
 pub greatest-is : (T : Table) (t : Term) (lo hi x : ℤ) → range lo hi ≡ window T (t .window) → x ≡ greatest-by (λ v. t .weight *ℤ v) (range lo hi) → x ≡ term-greatest T t
 greatest-is T t lo hi x w e = e ∙ ap (greatest-by (λ v. t .weight *ℤ v)) w
 
-pub smallest-step : (ts : List Term) (T : Table) (i : ℕ) (d : Term) (a x s : ℤ) → i < length ts → a +ℤ smallest (drop i ts) T ≡ s → x ≡ term-least T (getD ts i d) → (a +ℤ x) +ℤ smallest (drop (i + 1) ts) T ≡ s
-smallest-step ts T i d a x s h e q = let f = ap (λ l. smallest l T) (drop-more ts i d h) in omega (arith, ints)
-
-pub largest-step : (ts : List Term) (T : Table) (i : ℕ) (d : Term) (a x s : ℤ) → i < length ts → a +ℤ largest (drop i ts) T ≡ s → x ≡ term-greatest T (getD ts i d) → (a +ℤ x) +ℤ largest (drop (i + 1) ts) T ≡ s
-largest-step ts T i d a x s h e q = let f = ap (λ l. largest l T) (drop-more ts i d h) in omega (arith, ints)
-
-pub smallest-end : (ts : List Term) (T : Table) (i : ℕ) (a s : ℤ) → length ts ≤ i → a +ℤ smallest (drop i ts) T ≡ s → a ≡ s
-smallest-end ts T i a s h e = let f = ap (λ l. smallest l T) (drop-all i ts h) in omega (arith, ints)
-
-pub largest-end : (ts : List Term) (T : Table) (i : ℕ) (a s : ℤ) → length ts ≤ i → a +ℤ largest (drop i ts) T ≡ s → a ≡ s
-largest-end ts T i a s h e = let f = ap (λ l. largest l T) (drop-all i ts h) in omega (arith, ints)
-
 -- the sums stay small
 pub small-step : (i : ℕ) (a x : ℤ) → Small (10000000000 * i) a → Small 10000000000 x → Small (10000000000 * (i + 1)) (a +ℤ x)
 small-step i a x s t = (omega (arith, ints), omega (arith, ints))
@@ -123,85 +112,23 @@ new-window-is w exact bound least greatest lo hi lt gt low high from to r s lv g
     let b : high ≡ bound -ℤ (least -ℤ least-by (λ v. w *ℤ v) (range lo hi)) = eh ∙ ap (λ x. bound -ℤ (least -ℤ x)) lv in
     subst (λ s. Window-of s r) (sym k ∙ ap₂ (λ x y. kept-by (weighed w exact x y) (range lo hi)) a b) c
 
--- ---- the sum of the other terms, from that of all
-in-at : (ts : List Term) (i : ℕ) (d : Term) → i < length ts → in-terms ts (getD ts i d .window) ≡ true
-in-at [] i d h = absurd (omega arith)
-in-at (t ∷ ts) zero d h = grind (arith, tells)
-in-at (t ∷ ts) (suc i) d h = let ih = in-at ts i d (omega arith) in grind (arith, tells)
-
-smallest-none : (ts : List Term) (T : Table) (j : ℕ) → in-terms ts j ≡ false → smallest-but ts T j ≡ smallest ts T
-smallest-none [] T j h = refl
-smallest-none (t ∷ ts) T j h = let ih = smallest-none ts T j in grind (arith, tells)
-
-largest-none : (ts : List Term) (T : Table) (j : ℕ) → in-terms ts j ≡ false → largest-but ts T j ≡ largest ts T
-largest-none [] T j h = refl
-largest-none (t ∷ ts) T j h = let ih = largest-none ts T j in grind (arith, tells)
-
-apart-at : (t : Term) (ts : List Term) (i : ℕ) (d : Term) → i < length ts → in-terms ts (t .window) ≡ false → eqb (t .window) (getD ts i d .window) ≡ false
-apart-at t ts i d h a = let k = in-at ts i d h in grind (arith, tells)
-
-smallest-rest : (ts : List Term) (T : Table) (i : ℕ) (d : Term) → i < length ts → Apart ts → smallest-but ts T (getD ts i d .window) ≡ smallest ts T -ℤ term-least T (getD ts i d)
-smallest-rest [] T i d h a = absurd (omega arith)
-smallest-rest (t ∷ ts) T zero d h a =
-    let o : eqb (t .window) (t .window) ≡ true = grind (arith, tells) in
-    let e = smallest-none ts T (t .window) (apart-head t ts a) in
-    rw o (e ∙ omega (arith, ints))
-smallest-rest (t ∷ ts) T (suc i) d h a =
-    let o = apart-at t ts i d (omega arith) (apart-head t ts a) in
-    let ih = smallest-rest ts T i d (omega arith) (apart-tail t ts a) in
-    rw o (omega (arith, ints))
-
-largest-rest : (ts : List Term) (T : Table) (i : ℕ) (d : Term) → i < length ts → Apart ts → largest-but ts T (getD ts i d .window) ≡ largest ts T -ℤ term-greatest T (getD ts i d)
-largest-rest [] T i d h a = absurd (omega arith)
-largest-rest (t ∷ ts) T zero d h a =
-    let o : eqb (t .window) (t .window) ≡ true = grind (arith, tells) in
-    let e = largest-none ts T (t .window) (apart-head t ts a) in
-    rw o (e ∙ omega (arith, ints))
-largest-rest (t ∷ ts) T (suc i) d h a =
-    let o = apart-at t ts i d (omega arith) (apart-head t ts a) in
-    let ih = largest-rest ts T i d (omega arith) (apart-tail t ts a) in
-    rw o (omega (arith, ints))
-
-weight-is : (ts : List Term) (i : ℕ) (d : Term) → i < length ts → Apart ts → weight-at ts (getD ts i d .window) ≡ getD ts i d .weight
-weight-is [] i d h a = absurd (omega arith)
-weight-is (t ∷ ts) zero d h a = let o : eqb (t .window) (t .window) ≡ true = grind (arith, tells) in rw o refl
-weight-is (t ∷ ts) (suc i) d h a = let o = apart-at t ts i d (omega arith) (apart-head t ts a) in rw o (weight-is ts i d (omega arith) (apart-tail t ts a))
-
 -- the new window of a term, from the extremes of all
-pub term-new : (ts : List Term) (b : ℤ) (exact : Bool) (T : Table) (i : ℕ) (d : Term) → i < length ts → Apart ts → sum-new ts b exact T (getD ts i d .window) ≡ kept-by (weighed (getD ts i d .weight) exact (b -ℤ (largest ts T -ℤ term-greatest T (getD ts i d))) (b -ℤ (smallest ts T -ℤ term-least T (getD ts i d)))) (window T (getD ts i d .window))
+pub term-new : (ts : List Term) (b : ℤ) (exact : Bool) (T : Table) (i : ℕ) → i < length ts → Apart ts → sum-new ts b exact T (getD ts i no-term .window) ≡ kept-by (weighed (getD ts i no-term .weight) exact (b -ℤ (largest ts T -ℤ term-greatest T (getD ts i no-term))) (b -ℤ (smallest ts T -ℤ term-least T (getD ts i no-term)))) (window T (getD ts i no-term .window))
 unfolding sum-new sum-passes
-term-new ts b exact T i d h a =
-    let o = in-at ts i d h in
-    let x = smallest-rest ts T i d h a in
-    let y = largest-rest ts T i d h a in
-    let w = weight-is ts i d h a in
-    let W = window T (getD ts i d .window) in
-    rw o (ap (λ z. kept-by (weighed z exact (b -ℤ largest-but ts T (getD ts i d .window)) (b -ℤ smallest-but ts T (getD ts i d .window))) W) w ∙ ap₂ (λ g l. kept-by (weighed (getD ts i d .weight) exact (b -ℤ g) (b -ℤ l)) W) y x)
+term-new ts b exact T i h a =
+    let o = in-at ts i h in
+    let x = but-rest (term-least T) ts i h a in
+    let y = but-rest (term-greatest T) ts i h a in
+    let w = weight-is ts i h a in
+    let W = window T (getD ts i no-term .window) in
+    rw o (ap (λ z. kept-by (weighed z exact (b -ℤ largest-but ts T (getD ts i no-term .window)) (b -ℤ smallest-but ts T (getD ts i no-term .window))) W) w ∙ ap₂ (λ g l. kept-by (weighed (getD ts i no-term .weight) exact (b -ℤ g) (b -ℤ l)) W) y x)
 
 -- the same, at the row that holds the window
-pub row-new : (ts : List Term) (b : ℤ) (exact : Bool) (T : Table) (i : ℕ) (d : Term) (least greatest lo hi : ℤ) → i < length ts → Apart ts → least ≡ smallest ts T → greatest ≡ largest ts T → window T (getD ts i d .window) ≡ range lo hi → kept-by (weighed (getD ts i d .weight) exact (b -ℤ (greatest -ℤ greatest-by (λ v. getD ts i d .weight *ℤ v) (range lo hi))) (b -ℤ (least -ℤ least-by (λ v. getD ts i d .weight *ℤ v) (range lo hi)))) (range lo hi) ≡ sum-new ts b exact T (getD ts i d .window)
-row-new ts b exact T i d least greatest lo hi h a el eg ew =
-    ap (λ s. kept-by (weighed (getD ts i d .weight) exact (b -ℤ (greatest -ℤ greatest-by (λ v. getD ts i d .weight *ℤ v) s)) (b -ℤ (least -ℤ least-by (λ v. getD ts i d .weight *ℤ v) s))) s) (sym ew)
-    ∙ ap₂ (λ g l. kept-by (weighed (getD ts i d .weight) exact (b -ℤ (g -ℤ term-greatest T (getD ts i d))) (b -ℤ (l -ℤ term-least T (getD ts i d)))) (window T (getD ts i d .window))) eg el
-    ∙ sym (term-new ts b exact T i d h a)
-
--- ---- the terms so far
-pub in-more : (ts : List Term) (i : ℕ) (d : Term) (j : ℕ) → i < length ts → in-terms (take (i + 1) ts) j ≡ (in-terms (take i ts) j || eqb (getD ts i d .window) j)
-in-more ts i d j h = ap (λ l. in-terms l j) (take-more ts i d h) ∙ push (take i ts) (getD ts i d)
-  where
-    push : (l : List Term) (t : Term) → in-terms (l ++ t ∷ []) j ≡ (in-terms l j || eqb (t .window) j)
-    push [] t = grind (arith, tells)
-    push (u ∷ l) t = let ih = push l t in grind (arith, tells)
-
-pub in-all : (ts : List Term) (i j : ℕ) → length ts ≤ i → in-terms (take i ts) j ≡ in-terms ts j
-in-all ts i j h = ap (λ l. in-terms l j) (take-all i ts h)
-
--- a term's window stands in no earlier term
-pub fresh : (ts : List Term) (i : ℕ) (d : Term) → i < length ts → Apart ts → in-terms (take i ts) (getD ts i d .window) ≡ false
-fresh [] i d h a = absurd (omega arith)
-fresh (t ∷ ts) zero d h a = refl
-fresh (t ∷ ts) (suc i) d h a = let ih = fresh ts i d (omega arith) (apart-tail t ts a) in let o = apart-at t ts i d (omega arith) (apart-head t ts a) in grind (arith, tells)
-
+pub row-new : (ts : List Term) (b : ℤ) (exact : Bool) (T : Table) (i : ℕ) (least greatest lo hi : ℤ) → i < length ts → Apart ts → least ≡ smallest ts T → greatest ≡ largest ts T → window T (getD ts i no-term .window) ≡ range lo hi → kept-by (weighed (getD ts i no-term .weight) exact (b -ℤ (greatest -ℤ greatest-by (λ v. getD ts i no-term .weight *ℤ v) (range lo hi))) (b -ℤ (least -ℤ least-by (λ v. getD ts i no-term .weight *ℤ v) (range lo hi)))) (range lo hi) ≡ sum-new ts b exact T (getD ts i no-term .window)
+row-new ts b exact T i least greatest lo hi h a el eg ew =
+    ap (λ s. kept-by (weighed (getD ts i no-term .weight) exact (b -ℤ (greatest -ℤ greatest-by (λ v. getD ts i no-term .weight *ℤ v) s)) (b -ℤ (least -ℤ least-by (λ v. getD ts i no-term .weight *ℤ v) s))) s) (sym ew)
+    ∙ ap₂ (λ g l. kept-by (weighed (getD ts i no-term .weight) exact (b -ℤ (g -ℤ term-greatest T (getD ts i no-term))) (b -ℤ (l -ℤ term-least T (getD ts i no-term)))) (window T (getD ts i no-term .window))) eg el
+    ∙ sym (term-new ts b exact T i h a)
 
 -- ---- the list of new windows
 pub numbers-window : (s : List ℤ) (r : Option Span) → Window-of s r → numbers-of (λ w. range (w .lo) (w .hi)) r ≡ s
@@ -228,7 +155,7 @@ entries-more f ts i es es′ new fit h e n p =
     let k = ap length e ∙ length-map (take i ts) (λ u. record { at = u .window; new = f (u .window) }) ∙ length-take i ts in
     let l : ltb (length es) 8 ≡ true = room (length es) (length ts) i k h (fit .few) in
     let b : ltb (t .window) 64 ≡ true = below (t .window) 64 (term-below 64 ts i h (fit .near)) in
-    let d : has-entry es (t .window) ≡ false = ap (λ l. has-entry l (t .window)) e ∙ has-entries f (take i ts) (t .window) ∙ fresh ts i no-term h (fit .different) in
+    let d : has-entry es (t .window) ≡ false = ap (λ l. has-entry l (t .window)) e ∙ has-entries f (take i ts) (t .window) ∙ fresh ts i h (fit .different) in
     p ∙ pushed-yes es (record { at = t .window; new = new }) l b d ∙ ap₂ (λ l x. l ++ (record { at = t .window; new = x } ∷ [])) e n ∙ sym (entries-snoc f (take i ts) t) ∙ sym (ap (entries f) (take-more ts i no-term h))
   where
     below : (m n : ℕ) → m < n → ltb m n ≡ true

@@ -42,29 +42,17 @@ fn times(weight: i32, v: i32) -> i64
     weight as i64 * v as i64
 }
 
-// What a term can be at least.
-fn least_term(weight: i32, row: SpanRow) -> i64
+// What a term can be at least, and at most.
+fn term_extremes(weight: i32, row: SpanRow) -> Extremes
     requires { ⌜ Weighs weight ⌝ ∗ ⌜ Stands (row .lo) (row .hi) ⌝ }
-    ensures value { λ r. ⌜ r ≡ least-by (λ v. weight *ℤ v) (range (row .lo) (row .hi)) ⌝ }
-    ensures bound { λ r. ⌜ Small 10000000000 r ⌝ }
+    ensures least { λ r. ⌜ r .least ≡ least-by (λ v. weight *ℤ v) (range (row .lo) (row .hi)) ⌝ ∗ ⌜ Small 10000000000 (r .least) ⌝ }
+    ensures greatest { λ r. ⌜ r .greatest ≡ greatest-by (λ v. weight *ℤ v) (range (row .lo) (row .hi)) ⌝ ∗ ⌜ Small 10000000000 (r .greatest) ⌝ }
 {
-    if weight > 0 {
-        times(weight, row.lo)
-    } else {
-        times(weight, row.hi)
-    }
-}
-
-// What a term can be at most.
-fn greatest_term(weight: i32, row: SpanRow) -> i64
-    requires { ⌜ Weighs weight ⌝ ∗ ⌜ Stands (row .lo) (row .hi) ⌝ }
-    ensures value { λ r. ⌜ r ≡ greatest-by (λ v. weight *ℤ v) (range (row .lo) (row .hi)) ⌝ }
-    ensures bound { λ r. ⌜ Small 10000000000 r ⌝ }
-{
-    if weight > 0 {
-        times(weight, row.hi)
-    } else {
-        times(weight, row.lo)
+    let low = times(weight, row.lo);
+    let high = times(weight, row.hi);
+    Extremes {
+        least: low.min(high),
+        greatest: low.max(high),
     }
 }
 
@@ -132,8 +120,9 @@ fn new_window(weight: i32, row: SpanRow, bound: i32, exact: bool, sums: Extremes
     requires { ⌜ Weighs weight ⌝ ∗ ⌜ Stands (row .lo) (row .hi) ⌝ ∗ ⌜ Small 1000000000 bound ⌝ ∗ ⌜ Small 80000000000 (sums .least) ⌝ ∗ ⌜ Small 80000000000 (sums .greatest) ⌝ }
     ensures { λ r. ⌜ Window-of (kept-by (weighed weight exact (bound -ℤ (sums .greatest -ℤ greatest-by (λ v. weight *ℤ v) (range (row .lo) (row .hi)))) (bound -ℤ (sums .least -ℤ least-by (λ v. weight *ℤ v) (range (row .lo) (row .hi))))) (range (row .lo) (row .hi))) r ⌝ }
 {
-    let high = left_over(bound, sums.least, least_term(weight, row));
-    let low = left_over(bound, sums.greatest, greatest_term(weight, row));
+    let own = term_extremes(weight, row);
+    let high = left_over(bound, sums.least, own.least);
+    let low = left_over(bound, sums.greatest, own.greatest);
     let (from, to) = quotients(weight, exact, low, high);
     clipped(row, from, to)
 }
@@ -161,8 +150,9 @@ fn sum_extremes(terms: &[Term], rows: &[SpanRow]) -> Option<Extremes>
     let mut greatest: i64 = 0;
     for term in terms {
         let row = row_at(rows, term.window)?;
-        least += least_term(term.weight, row);
-        greatest += greatest_term(term.weight, row);
+        let own = term_extremes(term.weight, row);
+        least += own.least;
+        greatest += own.greatest;
     }
     Some(Extremes { least, greatest })
 }

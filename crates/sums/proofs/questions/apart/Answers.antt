@@ -4,7 +4,8 @@ use Prim.Native.Nat.{_+_}
 use lib.ListN.{getD, drop}
 use Rattle.sums.specs.Sums.{in-terms}
 use Rattle.sums.specs.Questions.{apart}
-use Rattle.sums.proofs.QuestionLaws.{no-term, stopped, passed, ended, apart-not, apart-later}
+use Rattle.sums.proofs.QuestionLaws.{stopped, passed, ended, apart-not, apart-later}
+use Rattle.sums.proofs.Totals.{no-term}
 use Rattle.sums.proofs.questions.apart.Needs as need
 
 pub returns-then-has-window : need.returns-then-has-window

@@ -1,7 +1,8 @@
 use Prim.Native.Nat.{_+_}
 use lib.ListN.{getD, drop}
 use Rattle.sums.specs.Sums.{in-terms}
-use Rattle.sums.proofs.QuestionLaws.{no-term, stopped, passed, ended, in-here, in-later}
+use Rattle.sums.proofs.QuestionLaws.{stopped, passed, ended, in-here, in-later}
+use Rattle.sums.proofs.Totals.{no-term}
 use Rattle.sums.proofs.questions.has_window.Needs as need
 
 pub returns-then-term-j : need.returns-then-term-j

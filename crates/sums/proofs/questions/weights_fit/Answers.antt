@@ -7,7 +7,8 @@ use mir.Syntax.{w32}
 use mir.Val.{SFits}
 use Rattle.std.proofs.shelf.Signed.{toZ-ofZ}
 use Rattle.sums.specs.Questions.{weighs, weights-fit}
-use Rattle.sums.proofs.QuestionLaws.{no-term, stopped, passed, ended, fit-not, fit-later}
+use Rattle.sums.proofs.QuestionLaws.{stopped, passed, ended, fit-not, fit-later}
+use Rattle.sums.proofs.Totals.{no-term}
 use Rattle.sums.proofs.questions.weights_fit.Needs as need
 
 pub returns-then-not-weighs : need.returns-then-not-weighs

@@ -1,7 +1,8 @@
 use Prim.Native.Nat.{_+_}
 use lib.ListN.{getD, drop}
 use Rattle.sums.specs.Questions.{windows-below}
-use Rattle.sums.proofs.QuestionLaws.{no-term, stopped, passed, ended, below-not, below-later}
+use Rattle.sums.proofs.QuestionLaws.{stopped, passed, ended, below-not, below-later}
+use Rattle.sums.proofs.Totals.{no-term}
 use Rattle.sums.proofs.questions.windows_below.Needs as need
 
 pub returns-then-term-n : need.returns-then-term-n

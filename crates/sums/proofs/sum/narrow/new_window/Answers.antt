@@ -15,15 +15,15 @@ returns c =
     let s = c .pre .1 .0 in
     let kl = fits-lo _ _ s in
     let kh = fits-hi _ _ s in
-    let gl : SFits w64 (c .least-term .result) = search needs in
-    let gg : SFits w64 (c .greatest-term .result) = search needs in
+    let gl : SFits w64 (c .term-extremes-own .result .least) = search needs in
+    let gg : SFits w64 (c .term-extremes-own .result .greatest) = search needs in
     let hl : SFits w64 (c .left-over-high .result) = search needs in
     let hg : SFits w64 (c .left-over-low .result) = search needs in
     let f0 : SFits w64 (c .quotients-from .result .0) = search needs in
     let f1 : SFits w64 (c .quotients-from .result .1) = search needs in
-    let lv = simp toZ-ofZ at (c .least-term .ensures .value) in
-    let gv = simp toZ-ofZ at (c .greatest-term .ensures .value) in
+    let lv = simp toZ-ofZ at (c .term-extremes-own .ensures .least .0) in
+    let gv = simp toZ-ofZ at (c .term-extremes-own .ensures .greatest .0) in
     let lo = simp toZ-ofZ at (c .left-over-low .ensures .value) in
     let hi = simp toZ-ofZ at (c .left-over-high .ensures .value) in
     let q = simp toZ-ofZ at (c .quotients-from .ensures) in
-    new-window-is (c .args .weight) (c .args .exact) (c .args .bound) (c .args .sums .least) (c .args .sums .greatest) (c .args .row .lo) (c .args .row .hi) (c .least-term .result) (c .greatest-term .result) (c .left-over-low .result) (c .left-over-high .result) (c .quotients-from .result .0) (c .quotients-from .result .1) (c .clipped .result) s lv gv lo hi q (simp toZ-ofZ at (c .clipped .ensures))
+    new-window-is (c .args .weight) (c .args .exact) (c .args .bound) (c .args .sums .least) (c .args .sums .greatest) (c .args .row .lo) (c .args .row .hi) (c .term-extremes-own .result .least) (c .term-extremes-own .result .greatest) (c .left-over-low .result) (c .left-over-high .result) (c .quotients-from .result .0) (c .quotients-from .result .1) (c .clipped .result) s lv gv lo hi q (simp toZ-ofZ at (c .clipped .ensures))

@@ -9,7 +9,8 @@ use Rattle.windows.specs.Rows.{span-numbers}
 use Rattle.windows.proofs.SpanLaws.{fits-lo, fits-hi}
 use Rattle.sums.specs.Sums.{sum-new}
 use Rattle.sums.specs.Steps.{entries, new-entries}
-use Rattle.sums.proofs.QuestionLaws.{no-term, bound-is}
+use Rattle.sums.proofs.QuestionLaws.{bound-is}
+use Rattle.sums.proofs.Totals.{no-term}
 use Rattle.sums.proofs.SumSteps.{weight-fits, term-weighs, read-at, row-new, numbers-window, entries-more}
 use Rattle.sums.proofs.sum.narrow.new_windows.Needs as need
 use Rattle.sums.proofs.sum.narrow.new_windows.Needs.{in-Some, in-rest}
@@ -41,7 +42,7 @@ loop-term-again c =
         let r = w .in-Some .ensures tt in
         let kl = fits-lo _ _ (r .0) in
         let kh = fits-hi _ _ (r .0) in
-        let new = numbers-window _ (w .new-window .result) (simp toZ-ofZ at (w .new-window .ensures)) ∙ row-new ts b exact T i no-term _ _ _ _ h (fit .different) (sums .1) (sums .2) (sym (r .1)) in
+        let new = numbers-window _ (w .new-window .result) (simp toZ-ofZ at (w .new-window .ensures)) ∙ row-new ts b exact T i _ _ _ _ h (fit .different) (sums .1) (sums .2) (sym (r .1)) in
         simp toZ-ofZ (ap new-entries (w .new-is) ∙ entries-more (sum-new ts b exact T) ts i _ _ _ fit h (simp toZ-ofZ at (c .loop-term .inv)) new (w .push .ensures))
     | in-rest w ↦ absurd (read-at T ts i h (sums .0) (w .in-rest .ensures tt)) ]
 

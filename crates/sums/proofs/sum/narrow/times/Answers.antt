@@ -15,7 +15,7 @@ use Rattle.windows.specs.Rows.{Stands}
 use Rattle.sums.specs.Sizes.{Weighs, Small}
 use Rattle.sums.specs.Sums.{weighed}
 use Rattle.windows.proofs.SetLaws.{range-none}
-use Rattle.sums.proofs.SumCode.{times-small, least-up, least-down, greatest-up, greatest-down, floor-small, quotients-up, quotients-down}
+use Rattle.sums.proofs.SumCode.{times-small}
 use Rattle.sums.proofs.sum.narrow.times.Needs as need
 
 pub returns : need.returns
