@@ -1,9 +1,8 @@
 -- What the code of the sum rules computes, as numbers.
-use mathlib.Core.Path.{_≡_, refl, sym, ap, ap₂, subst, subst₂, _∙_}
-use mathlib.Core.List.{List, [], _∷_}
-use mathlib.Core.Logic.{_⊎_, inl, inr}
+use mathlib.Core.Path.{_≡_, refl, sym, ap, ap₂, subst₂, _∙_}
+use mathlib.Core.List.{[]}
 use mathlib.Core.Bool.{Bool, true, false, not, cond, _&&_, _||_}
-use Prim.Native.Nat.{ℕ, zero, suc, _+_, _*_, _/_, _≤_, _<_}
+use Prim.Native.Nat.{ℕ, zero, suc, _+_, _*_, _≤_, _<_}
 use native.Mathlib.Nat.{mul-le-mul, mul-comm, div-lt-iff-lt-mul, le-div-iff-mul-le, div-le-self}
 use native.Mathlib.Omega.{arith}
 use lib.IntN.{ℤ, pos, negsuc, negℤ, natAbs, negℤ-negℤ, +ℤ-idl, _+ℤ_, _-ℤ_, _*ℤ_}
@@ -18,7 +17,7 @@ use Rattle.windows.specs.Sets.{range, between, least-by, greatest-by}
 use Rattle.windows.specs.Rows.{Stands}
 use Rattle.sums.specs.Sizes.{Weighs, Small}
 use Rattle.sums.specs.Sums.{weighed}
-use Rattle.windows.proofs.SetLaws.{tests, bool-same, range-none, least-range, greatest-range}
+use Rattle.windows.proofs.SetLaws.{bool-same, range-none, least-range, greatest-range}
 use Rattle.sums.proofs.Signed.{mul-up, mul-down}
 
 -- ---- products

@@ -1,28 +1,31 @@
 -- The laws of the sum rules.
-use mathlib.Core.Path.{_≡_, refl, sym, ap, subst, _∙_}
-use mathlib.Core.List.{List, [], _∷_}
-use mathlib.Core.Logic.{_⊎_, inl, inr}
+use mathlib.Core.Path.{_≡_, refl, ap, subst, _∙_}
+use mathlib.Core.List.{List}
+use mathlib.Core.Logic.{_⊎_}
 use mathlib.Core.Bool.{Bool, true, false, not, cond, _&&_, _||_}
-use Prim.Native.Nat.{ℕ, zero, suc, _+_, _≤_, _<_, max}
+use Prim.Native.Nat.{ℕ, min, _+_, _≤_, _<_}
 use native.Mathlib.Omega.{arith}
-use lib.Dec.{eqb}
 use lib.ListN.{length, getD}
-use lib.IntN.{ℤ, pos, negsuc, _+ℤ_, _-ℤ_, _*ℤ_}
-use lib.Signed.{leZ, ltZ, _<ℤ_, _≤ℤ_}
+use lib.IntN.{ℤ, _+ℤ_, _-ℤ_, _*ℤ_}
+use lib.Signed.{leZ, _≤ℤ_}
+use Rattle.std.specs.declared.option.Option.the-variants.{None}
 use Rattle.std.specs.shelf.Lists.{kept-by}
-use Rattle.std.proofs.shelf.Signed.{ints, clamps}
-use Rattle.std.proofs.shelf.Ways.{tells, eqb-tells}
-use Rattle.windows.specs.Sets.{has, In, Within, Rising, least-by, greatest-by, hull}
+use Rattle.std.proofs.shelf.Signed.{ints}
+use Rattle.windows.specs.Sets.{In, Within, least-by, greatest-by}
 use Rattle.windows.specs.Kinds.{Of, spans}
 use Rattle.rulebook.specs.Tables.{Table, Placing, window, place, Inside, Places, Every}
 use Rattle.rulebook.specs.Rules.{Agree, Lawful}
 use Rattle.rules.specs.Pointwise.{rule-of}
 use Rattle.sums.specs.Sums.{in-terms, terms-reach, weight-at, term-least, term-greatest, term-at, total-but, smallest-but, largest-but, sum-of, sum-passes, sum-new, sum-allows, sum-rule}
-use Rattle.sums.specs.Questions.{apart, Apart}
+use Rattle.sums.specs.Questions.{Apart, given, sum-asks}
+use Rattle.sums.specs.Meaning.{terms-of, sum-meaning, posted-meaning}
 use Rattle.sums.specs.declared.posted.Term.{Term}
-use Rattle.windows.proofs.SetLaws.{tests, never, within-kept, in-kept, kept-passes, kept-same, rising-kept, least-bounds, greatest-bounds, least-within, greatest-within, Gapless, hull-kept}
+use Rattle.sums.specs.declared.posted.PostedSum.{PostedSum}
+use Rattle.sums.specs.declared.sum.Sum.{Sum}
+use Rattle.windows.proofs.SetLaws.{tests, within-kept, in-kept, kept-passes, kept-same, rising-kept, least-bounds, greatest-bounds, least-within, greatest-within, Gapless, hull-kept}
 use Rattle.rules.proofs.PointwiseLaws.{lawful}
 use Rattle.sums.proofs.Signed.{mul-between}
+use Rattle.sums.proofs.QuestionLaws.{accepted, below-read}
 use Rattle.sums.proofs.Totals.{no-term, covers, each-read, index-of, weight-is, but-mono, but-same, but-rest}
 
 -- ---- the smallest and the largest sum of the other terms
@@ -127,3 +130,13 @@ sum-keeps ts b exact a T p m h r j l = go (in-terms ts j) refl
 
 pub sum-lawful : (ts : List Term) (b : ℤ) (exact : Bool) → Apart ts → Lawful (Of spans) (rule-of (sum-rule ts b exact))
 sum-lawful ts b exact a = lawful (Of spans) (λ s k. k .some) (sum-rule ts b exact) (record { covers = covers ts; smaller = λ T e r j h. sum-smaller ts b exact T j; kinds = λ T e r j h. sum-kinds ts b exact T j (e j h); unread = sum-unread ts b exact; local = sum-local ts b exact; mono = λ T U e f i r j h. sum-mono ts b exact T U e i r j; keeps = λ T p e m h r j l. sum-keeps ts b exact a T p m h r j l })
+
+-- ---- what a book of sums owes
+pub meaning-lawful : (s : Sum) → Lawful (Of spans) (sum-meaning s)
+meaning-lawful s = sum-lawful (terms-of s) (s .bound) (s .exact) (s .different)
+
+pub meaning-near : (s : Sum) (j : ℕ) → sum-meaning s .reads j ≡ true → j < 64
+meaning-near s j h = below-read 64 (terms-of s) j (s .near) h
+
+pub asks-within : (p : PostedSum) (exact : Bool) (n j : ℕ) → sum-asks p n ≡ None → posted-meaning p exact .reads j ≡ true → j < n
+asks-within p exact n j e h = let k = below-read (min n 64) (given p) j (accepted p n e .windows) h in omega arith

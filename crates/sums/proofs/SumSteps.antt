@@ -1,14 +1,13 @@
 -- The steps of a narrowing by a sum, as numbers and lists.
 use mathlib.Core.Path.{_≡_, refl, sym, ap, ap₂, subst, _∙_}
 use mathlib.Core.List.{List, [], _∷_, map, _++_}
-use mathlib.Core.Logic.{_⊎_, inl, inr}
-use mathlib.Core.Bool.{Bool, true, false, not, cond, _&&_, _||_}
+use mathlib.Core.Bool.{Bool, true, false, cond, _||_}
 use Prim.Native.Nat.{ℕ, zero, suc, min, _+_, _*_, _≤_, _<_}
 use native.Mathlib.Omega.{arith}
 use lib.Dec.{eqb, leb, ltb}
-use lib.ListN.{length, getD, drop, take}
+use lib.ListN.{length, getD, take}
 use lib.IntN.{ℤ, pos, negsuc, _+ℤ_, _-ℤ_, _*ℤ_}
-use lib.Signed.{leZ, _≤ℤ_, _<ℤ_}
+use lib.Signed.{_≤ℤ_}
 use mir.Syntax.{w32, w64}
 use mir.Val.{SFits}
 use Rattle.std.specs.Numbers.{minZ, maxZ}
@@ -16,7 +15,7 @@ use Rattle.std.specs.Options.{Cases}
 use Rattle.std.specs.declared.option.Option.{Option}
 use Rattle.std.specs.declared.option.Option.the-variants.{Some, None}
 use Rattle.std.specs.shelf.Lists.{kept-by, All}
-use Rattle.std.proofs.shelf.Lists.{drop-more, drop-all, take-more, take-all, getD-map, getD-past, length-map, length-take}
+use Rattle.std.proofs.shelf.Lists.{take-more, getD-map, getD-past, length-map, length-take}
 use Rattle.std.proofs.shelf.Signed.{ints}
 use Rattle.std.proofs.shelf.Ways.{tells}
 use Rattle.windows.specs.Sets.{range, between, least-by, greatest-by}
@@ -32,14 +31,14 @@ use Rattle.rulebook.specs.Answers.{outcome, member, Tells}
 use Rattle.rulebook.specs.declared.answer.Narrowing.{Narrowing}
 use Rattle.rulebook.specs.declared.answer.Narrowing.the-variants.{Changed}
 use Rattle.rulebook.specs.declared.set.WindowSet.{WindowSet}
-use Rattle.rules.specs.Pointwise.{rule-of, Entry, has-entry, replaced, judged, narrow-by, make-all, written}
+use Rattle.rules.specs.Pointwise.{rule-of, Entry, has-entry, judged, narrow-by, written}
 use Rattle.rules.specs.Writing.{numbers-of, pushed}
 use Rattle.rules.proofs.PointwiseLaws.{replaced-made}
 use Rattle.rules.proofs.WritingLaws.{some-filled, full-window, same-window}
-use Rattle.sums.specs.Sums.{term-least, term-greatest, smallest, largest, smallest-but, largest-but, in-terms, weight-at, weighed, sum-passes, sum-new, sum-rule, terms-reach}
-use Rattle.sums.specs.Questions.{windows-below, Apart, weighs, weights-fit}
+use Rattle.sums.specs.Sums.{term-least, term-greatest, smallest, largest, smallest-but, largest-but, in-terms, weighed, sum-passes, sum-new, sum-rule, terms-reach}
+use Rattle.sums.specs.Questions.{windows-below, Apart, weights-fit}
 use Rattle.sums.specs.Sizes.{Weighs, Small}
-use Rattle.sums.specs.Steps.{Row-of, Window-of, all-read, Fit, entries}
+use Rattle.sums.specs.Steps.{Window-of, all-read, Fit, entries}
 use Rattle.sums.specs.declared.posted.Term.{Term}
 use Rattle.sums.proofs.SumLaws.{sum-unread}
 use Rattle.sums.proofs.QuestionLaws.{weighs-is}

@@ -1,6 +1,5 @@
 // The questions that are asked of a sum.
 ghost use mathlib.Core.Path.{_≡_};
-ghost use Prim.Native.Nat.{ℕ};
 ghost use lib.ListN.{drop};
 ghost use Rattle.sums.specs.Sums.{in-terms};
 ghost use Rattle.sums.specs.Questions.{windows-below, apart, weighs, weights-fit, bound-fits, given, sum-asks};

@@ -1,6 +1,6 @@
 // The check that makes a sum, and the windows that it reads.
 ghost use mathlib.Core.Path.{_≡_};
-ghost use Rattle.sums.specs.Meaning.{terms-of, sum-meaning, Checked};
+ghost use Rattle.sums.specs.Meaning.{sum-meaning, Checked};
 use crate::posted::PostedSum;
 use crate::posted::Term;
 use crate::questions::has_window;

@@ -1,4 +1,4 @@
-use mathlib.Core.Path.{_≡_, refl, sym, ap, subst, _∙_}
+use mathlib.Core.Path.{refl, ap}
 use mathlib.Core.List.{map}
 use native.Mathlib.Nat.{sub-zero}
 use borrow.Author.Needs.{needs}

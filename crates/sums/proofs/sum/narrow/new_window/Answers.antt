@@ -1,5 +1,5 @@
 use borrow.Author.Needs.{needs}
-use mir.Syntax.{w32, w64}
+use mir.Syntax.{w64}
 use mir.Val.{SFits}
 use Rattle.std.proofs.shelf.Signed.{toZ-ofZ}
 use Rattle.windows.proofs.SpanLaws.{fits-lo, fits-hi}

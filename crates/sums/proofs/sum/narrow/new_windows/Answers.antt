@@ -10,7 +10,6 @@ use Rattle.windows.proofs.SpanLaws.{fits-lo, fits-hi}
 use Rattle.sums.specs.Sums.{sum-new}
 use Rattle.sums.specs.Steps.{entries, new-entries}
 use Rattle.sums.proofs.QuestionLaws.{bound-is}
-use Rattle.sums.proofs.Totals.{no-term}
 use Rattle.sums.proofs.SumSteps.{weight-fits, term-weighs, read-at, row-new, numbers-window, entries-more}
 use Rattle.sums.proofs.sum.narrow.new_windows.Needs as need
 use Rattle.sums.proofs.sum.narrow.new_windows.Needs.{in-Some, in-rest}

@@ -1,15 +1,12 @@
-use mathlib.Core.Path.{_≡_, refl, sym, ap, ap₂, subst, _∙_}
 use native.Mathlib.Omega.{arith}
 use borrow.Author.Needs.{needs}
 use mir.Syntax.{w32, w64}
-use mir.Val.{ofZ, toZ, SFits}
-use lib.IntN.{ℤ, pos, negsuc, negℤ, natAbs, _-ℤ_}
-use lib.Signed.{leZ, _≤ℤ_, _<ℤ_}
-use Rattle.std.specs.Numbers.{minZ, maxZ, divEuclid}
-use Rattle.std.proofs.shelf.Signed.{ints, clamps, toZ-ofZ}
-use Rattle.windows.specs.Rows.{Stands}
-use Rattle.sums.specs.Sizes.{Weighs, Small}
-use Rattle.sums.proofs.SumCode.{quotients-pos, quotients-neg, clipped-ends, clipped-fits, clipped-none}
+use mir.Val.{SFits}
+use lib.IntN.{ℤ, pos, _-ℤ_}
+use lib.Signed.{_<ℤ_}
+use Rattle.std.proofs.shelf.Signed.{ints, toZ-ofZ}
+use Rattle.sums.specs.Sizes.{Small}
+use Rattle.sums.proofs.SumCode.{quotients-pos, quotients-neg}
 use Rattle.sums.proofs.sum.narrow.quotients.Needs as need
 
 fits : (z : ℤ) → Small 1000000000000 z → SFits w64 z

@@ -1,11 +1,11 @@
 use mathlib.Core.List.{map}
-use mathlib.Core.Path.{_≡_, sym, subst}
+use mathlib.Core.Path.{sym, subst}
 use Prim.Native.Nat.{_+_, _<_, _≤_}
 use native.Mathlib.Omega.{arith}
 use borrow.Author.Needs.{needs}
-use mir.Syntax.{w32, w64}
+use mir.Syntax.{w64}
 use mir.Val.{SFits}
-use lib.ListN.{length, getD, drop}
+use lib.ListN.{getD, drop}
 use Rattle.std.proofs.shelf.Signed.{toZ-ofZ}
 use Rattle.windows.specs.Rows.{span-numbers}
 use Rattle.windows.proofs.SpanLaws.{fits-lo, fits-hi}

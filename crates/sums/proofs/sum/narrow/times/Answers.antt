@@ -1,20 +1,9 @@
-use mathlib.Core.Path.{_≡_, refl, sym, ap, ap₂, subst, _∙_}
-use mathlib.Core.Logic.{_⊎_, inl, inr}
-use mathlib.Core.Bool.{Bool, true, false, cond}
-use Prim.Native.Nat.{ℕ, suc, _≤_, _<_}
 use native.Mathlib.Omega.{arith}
-use borrow.Author.Needs.{needs}
-use mir.Syntax.{w32, w64}
-use mir.Val.{ofZ, toZ, SFits}
-use lib.IntN.{ℤ, pos, negsuc, negℤ, natAbs, _+ℤ_, _-ℤ_, _*ℤ_}
-use lib.Signed.{leZ, _≤ℤ_, _<ℤ_}
-use Rattle.std.specs.Numbers.{minZ, maxZ, divEuclid}
-use Rattle.std.proofs.shelf.Signed.{ints, clamps, toZ-ofZ}
-use Rattle.windows.specs.Sets.{range, between}
-use Rattle.windows.specs.Rows.{Stands}
-use Rattle.sums.specs.Sizes.{Weighs, Small}
-use Rattle.sums.specs.Sums.{weighed}
-use Rattle.windows.proofs.SetLaws.{range-none}
+use mir.Syntax.{w64}
+use mir.Val.{SFits}
+use lib.IntN.{ℤ, _*ℤ_}
+use Rattle.std.proofs.shelf.Signed.{ints, toZ-ofZ}
+use Rattle.sums.specs.Sizes.{Small}
 use Rattle.sums.proofs.SumCode.{times-small}
 use Rattle.sums.proofs.sum.narrow.times.Needs as need
 
