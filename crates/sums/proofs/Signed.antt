@@ -1,14 +1,12 @@
 -- Products of signed numbers, by the sign of a factor. (`≤ℤ` binds more tightly than `*ℤ` and `+ℤ`.)
-use mathlib.Core.Path.{_≡_, refl, sym, ap, subst, _∙_}
 use mathlib.Core.Logic.{_⊎_, inl, inr}
-use mathlib.Core.Bool.{Bool, true, false, not, cond, _&&_, _||_}
-use Prim.Native.Nat.{ℕ, zero, suc, _+_, _*_, _≤_, _<_}
+use Prim.Native.Nat.{ℕ, suc, _+_, _*_, _≤_}
 use native.Mathlib.Nat.{mul-le-mul-left, mul-add}
 use native.Mathlib.Omega.{arith}
-use lib.IntN.{ℤ, pos, negsuc, negℤ, natAbs, _+ℤ_, _-ℤ_, _*ℤ_, *ℤ-comm}
-use lib.Signed.{leZ, ltZ, _<ℤ_, _≤ℤ_}
-use borrow.Author.Differences.{up, down, le-out, at-most-in}
-use Rattle.std.proofs.shelf.Signed.{ints, clamps}
+use lib.IntN.{ℤ, pos, negsuc, _*ℤ_}
+use lib.Signed.{_≤ℤ_}
+use borrow.Author.Differences.{up, down, le-out}
+use Rattle.std.proofs.shelf.Signed.{ints}
 
 -- n times a difference
 scaled : (n a b c d : ℕ) → a + b ≤ c + d → n * a + n * b ≤ n * c + n * d

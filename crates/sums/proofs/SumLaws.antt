@@ -1,116 +1,66 @@
 -- The laws of the sum rules.
-use mathlib.Core.Path.{_≡_, refl, sym, ap, subst, _∙_}
-use mathlib.Core.List.{List, [], _∷_}
-use mathlib.Core.Logic.{_⊎_, inl, inr}
+use mathlib.Core.Path.{_≡_, refl, ap, subst, _∙_}
+use mathlib.Core.List.{List}
+use mathlib.Core.Logic.{_⊎_}
 use mathlib.Core.Bool.{Bool, true, false, not, cond, _&&_, _||_}
-use Prim.Native.Nat.{ℕ, zero, suc, _+_, _≤_, _<_, max}
+use Prim.Native.Nat.{ℕ, min, _+_, _≤_, _<_}
 use native.Mathlib.Omega.{arith}
-use lib.Dec.{eqb}
-use lib.ListN.{length}
-use lib.IntN.{ℤ, pos, negsuc, _+ℤ_, _-ℤ_, _*ℤ_}
-use lib.Signed.{leZ, ltZ, _<ℤ_, _≤ℤ_}
+use lib.ListN.{length, getD}
+use lib.IntN.{ℤ, _+ℤ_, _-ℤ_, _*ℤ_}
+use lib.Signed.{leZ, _≤ℤ_}
+use Rattle.std.specs.declared.option.Option.the-variants.{None}
 use Rattle.std.specs.shelf.Lists.{kept-by}
-use Rattle.std.proofs.shelf.Signed.{ints, clamps}
-use Rattle.std.proofs.shelf.Ways.{tells, eqb-tells}
-use Rattle.windows.specs.Sets.{has, In, Within, Rising, least-by, greatest-by, hull}
+use Rattle.std.proofs.shelf.Signed.{ints}
+use Rattle.windows.specs.Sets.{In, Within, least-by, greatest-by}
 use Rattle.windows.specs.Kinds.{Of, spans}
 use Rattle.rulebook.specs.Tables.{Table, Placing, window, place, Inside, Places, Every}
 use Rattle.rulebook.specs.Rules.{Agree, Lawful}
 use Rattle.rules.specs.Pointwise.{rule-of}
-use Rattle.sums.specs.Sums.{in-terms, terms-reach, weight-at, term-least, term-greatest, smallest-but, largest-but, sum-of, sum-passes, sum-new, sum-allows, sum-rule}
-use Rattle.sums.specs.Questions.{apart, Apart}
+use Rattle.sums.specs.Sums.{in-terms, terms-reach, weight-at, term-least, term-greatest, term-at, total-but, smallest-but, largest-but, sum-of, sum-passes, sum-new, sum-allows, sum-rule}
+use Rattle.sums.specs.Questions.{Apart, given, sum-asks}
+use Rattle.sums.specs.Meaning.{terms-of, sum-meaning, posted-meaning}
 use Rattle.sums.specs.declared.posted.Term.{Term}
-use Rattle.windows.proofs.SetLaws.{tests, never, within-kept, in-kept, kept-passes, kept-same, rising-kept, least-bounds, greatest-bounds, least-within, greatest-within, Gapless, hull-kept}
+use Rattle.sums.specs.declared.posted.PostedSum.{PostedSum}
+use Rattle.sums.specs.declared.sum.Sum.{Sum}
+use Rattle.windows.proofs.SetLaws.{tests, within-kept, in-kept, kept-passes, kept-same, rising-kept, least-bounds, greatest-bounds, least-within, greatest-within, Gapless, hull-kept}
 use Rattle.rules.proofs.PointwiseLaws.{lawful}
 use Rattle.sums.proofs.Signed.{mul-between}
-
--- the first term's window is in no other, and the others are apart
-pub apart-head : (t : Term) (ts : List Term) → Apart (t ∷ ts) → in-terms ts (t .window) ≡ false
-apart-head t ts a = grind arith
-
-pub apart-tail : (t : Term) (ts : List Term) → Apart (t ∷ ts) → Apart ts
-apart-tail t ts a = grind arith
-
-pub covers : (ts : List Term) (j : ℕ) → in-terms ts j ≡ true → j < terms-reach ts
-covers [] j h = never h
-covers (t ∷ ts) j h = let ih = covers ts j in grind (arith, tells)
+use Rattle.sums.proofs.QuestionLaws.{accepted, below-read}
+use Rattle.sums.proofs.Totals.{no-term, covers, each-read, index-of, weight-is, but-mono, but-same, but-rest}
 
 -- ---- the smallest and the largest sum of the other terms
-filled : (T : Table) → Every (Of spans) T → (j : ℕ) → j < length T → 0 < length (window T j)
-filled T e j h = e j h .some
+-- a term's window is in the table, and has a number
+read-inside : (ts : List Term) (T : Table) → terms-reach ts ≤ length T → (t : Term) → in-terms ts (t .window) ≡ true → t .window < length T
+read-inside ts T r t q = let k = covers ts (t .window) q in omega arith
 
-pub smallest-mono : (ts : List Term) (T U : Table) (j : ℕ) → Every (Of spans) T → Inside T U → terms-reach ts ≤ length T → smallest-but ts U j ≤ℤ smallest-but ts T j
-smallest-mono [] T U j e i r = omega (arith, ints)
-smallest-mono (t ∷ ts) T U j e i r =
-    let ih = smallest-mono ts T U j e i (omega arith) in
-    let m = least-within (λ v. t .weight *ℤ v) (window T (t .window)) (window U (t .window)) (i .each (t .window)) (filled T e (t .window) (omega arith)) in
-    go (eqb (t .window) j) ih m
-  where
-    go : (b : Bool) → smallest-but ts U j ≤ℤ smallest-but ts T j → term-least U t ≤ℤ term-least T t → cond b (smallest-but ts U j) (term-least U t +ℤ smallest-but ts U j) ≤ℤ cond b (smallest-but ts T j) (term-least T t +ℤ smallest-but ts T j)
-    go true ih m = ih
-    go false ih m = omega (arith, ints)
+smallest-mono : (ts : List Term) (T U : Table) (j : ℕ) → Every (Of spans) T → Inside T U → terms-reach ts ≤ length T → smallest-but ts U j ≤ℤ smallest-but ts T j
+smallest-mono ts T U j e i r = but-mono (term-least U) (term-least T) ts j (each-read _ ts (λ t q. least-within (λ v. t .weight *ℤ v) (window T (t .window)) (window U (t .window)) (i .each (t .window)) (e (t .window) (read-inside ts T r t q) .some)))
 
-pub largest-mono : (ts : List Term) (T U : Table) (j : ℕ) → Every (Of spans) T → Inside T U → terms-reach ts ≤ length T → largest-but ts T j ≤ℤ largest-but ts U j
-largest-mono [] T U j e i r = omega (arith, ints)
-largest-mono (t ∷ ts) T U j e i r =
-    let ih = largest-mono ts T U j e i (omega arith) in
-    let m = greatest-within (λ v. t .weight *ℤ v) (window T (t .window)) (window U (t .window)) (i .each (t .window)) (filled T e (t .window) (omega arith)) in
-    go (eqb (t .window) j) ih m
-  where
-    go : (b : Bool) → largest-but ts T j ≤ℤ largest-but ts U j → term-greatest T t ≤ℤ term-greatest U t → cond b (largest-but ts T j) (term-greatest T t +ℤ largest-but ts T j) ≤ℤ cond b (largest-but ts U j) (term-greatest U t +ℤ largest-but ts U j)
-    go true ih m = ih
-    go false ih m = omega (arith, ints)
+largest-mono : (ts : List Term) (T U : Table) (j : ℕ) → Every (Of spans) T → Inside T U → terms-reach ts ≤ length T → largest-but ts T j ≤ℤ largest-but ts U j
+largest-mono ts T U j e i r = but-mono (term-greatest T) (term-greatest U) ts j (each-read _ ts (λ t q. greatest-within (λ v. t .weight *ℤ v) (window T (t .window)) (window U (t .window)) (i .each (t .window)) (e (t .window) (read-inside ts T r t q) .some)))
 
 -- they depend on the terms' windows alone
-in-tail : (t : Term) (ts : List Term) (j : ℕ) → in-terms ts j ≡ true → in-terms (t ∷ ts) j ≡ true
-in-tail t ts j h = grind (arith, tells)
+smallest-local : (ts : List Term) (T U : Table) (j : ℕ) → Agree (in-terms ts) T U → smallest-but ts T j ≡ smallest-but ts U j
+smallest-local ts T U j a = but-same (term-least T) (term-least U) ts j (each-read _ ts (λ t q. ap (least-by (λ v. t .weight *ℤ v)) (a (t .window) q)))
 
-in-head : (t : Term) (ts : List Term) → in-terms (t ∷ ts) (t .window) ≡ true
-in-head t ts = grind (arith, tells)
-
-pub smallest-local : (ts : List Term) (T U : Table) (j : ℕ) → Agree (in-terms ts) T U → smallest-but ts T j ≡ smallest-but ts U j
-smallest-local [] T U j a = refl
-smallest-local (t ∷ ts) T U j a =
-    let ih = smallest-local ts T U j (λ k h. a k (in-tail t ts k h)) in
-    let w = a (t .window) (in-head t ts) in
-    cc
-
-pub largest-local : (ts : List Term) (T U : Table) (j : ℕ) → Agree (in-terms ts) T U → largest-but ts T j ≡ largest-but ts U j
-largest-local [] T U j a = refl
-largest-local (t ∷ ts) T U j a =
-    let ih = largest-local ts T U j (λ k h. a k (in-tail t ts k h)) in
-    let w = a (t .window) (in-head t ts) in
-    cc
+largest-local : (ts : List Term) (T U : Table) (j : ℕ) → Agree (in-terms ts) T U → largest-but ts T j ≡ largest-but ts U j
+largest-local ts T U j a = but-same (term-greatest T) (term-greatest U) ts j (each-read _ ts (λ t q. ap (greatest-by (λ v. t .weight *ℤ v)) (a (t .window) q)))
 
 -- ---- a placing's sum, without the term of window j
-abbrev sum-but : List Term → Placing → ℕ → ℤ
-sum-but [] p j = pos 0
-sum-but (t ∷ ts) p j = cond (eqb (t .window) j) (sum-but ts p j) (t .weight *ℤ place p (t .window) +ℤ sum-but ts p j)
+smallest-below : (ts : List Term) (T : Table) (p : Placing) (j : ℕ) → Places p T → terms-reach ts ≤ length T → smallest-but ts T j ≤ℤ total-but (term-at p) ts j
+smallest-below ts T p j m r = but-mono (term-least T) (term-at p) ts j (each-read _ ts (λ t q. least-bounds (λ v. t .weight *ℤ v) (window T (t .window)) (place p (t .window)) (m .each (t .window) (read-inside ts T r t q))))
 
-sum-but-bounds : (ts : List Term) (T : Table) (p : Placing) (j : ℕ) → Places p T → terms-reach ts ≤ length T → (smallest-but ts T j ≤ℤ sum-but ts p j) × (sum-but ts p j ≤ℤ largest-but ts T j)
-sum-but-bounds [] T p j m r = omega (arith, ints)
-sum-but-bounds (t ∷ ts) T p j m r =
-    let i = m .each (t .window) (omega arith) in
-    go (eqb (t .window) j) (sum-but-bounds ts T p j m (omega arith)) (least-bounds (λ v. t .weight *ℤ v) (window T (t .window)) (place p (t .window)) i) (greatest-bounds (λ v. t .weight *ℤ v) (window T (t .window)) (place p (t .window)) i)
+largest-above : (ts : List Term) (T : Table) (p : Placing) (j : ℕ) → Places p T → terms-reach ts ≤ length T → total-but (term-at p) ts j ≤ℤ largest-but ts T j
+largest-above ts T p j m r = but-mono (term-at p) (term-greatest T) ts j (each-read _ ts (λ t q. greatest-bounds (λ v. t .weight *ℤ v) (window T (t .window)) (place p (t .window)) (m .each (t .window) (read-inside ts T r t q))))
+
+sum-split : (ts : List Term) (p : Placing) (j : ℕ) → Apart ts → in-terms ts j ≡ true → sum-of ts p ≡ weight-at ts j *ℤ place p j +ℤ total-but (term-at p) ts j
+sum-split ts p j a h =
+    let k = index-of ts j h in
+    let t = getD ts (k .0) no-term in
+    subst (λ j. sum-of ts p ≡ weight-at ts j *ℤ place p j +ℤ total-but (term-at p) ts j) (k .2) (rw (weight-is ts (k .0) (k .1) a) (back (sum-of ts p) (term-at p t) (total-but (term-at p) ts (t .window)) (but-rest (term-at p) ts (k .0) (k .1) a)))
   where
-    go : (b : Bool) → (smallest-but ts T j ≤ℤ sum-but ts p j) × (sum-but ts p j ≤ℤ largest-but ts T j) → term-least T t ≤ℤ (t .weight *ℤ place p (t .window)) → (t .weight *ℤ place p (t .window)) ≤ℤ term-greatest T t → (cond b (smallest-but ts T j) (term-least T t +ℤ smallest-but ts T j) ≤ℤ cond b (sum-but ts p j) (t .weight *ℤ place p (t .window) +ℤ sum-but ts p j)) × (cond b (sum-but ts p j) (t .weight *ℤ place p (t .window) +ℤ sum-but ts p j) ≤ℤ cond b (largest-but ts T j) (term-greatest T t +ℤ largest-but ts T j))
-    go true ih l g = ih
-    go false ih l g = (omega (arith, ints), omega (arith, ints))
-
-sum-none : (ts : List Term) (p : Placing) (j : ℕ) → in-terms ts j ≡ false → sum-of ts p ≡ sum-but ts p j
-sum-none [] p j h = refl
-sum-none (t ∷ ts) p j h = let ih = sum-none ts p j in grind (arith, ints, tells)
-
-swap-front : (a b c : ℤ) → a +ℤ (b +ℤ c) ≡ b +ℤ (a +ℤ c)
-swap-front a b c = omega (arith, ints)
-
-sum-split : (ts : List Term) (p : Placing) (j : ℕ) → Apart ts → in-terms ts j ≡ true → sum-of ts p ≡ weight-at ts j *ℤ place p j +ℤ sum-but ts p j
-sum-split [] p j a h = never h
-sum-split (t ∷ ts) p j a h = go (eqb-tells (t .window) j) (sum-split ts p j (apart-tail t ts a))
-  where
-    go : ((eqb (t .window) j ≡ true) × (t .window ≡ j)) ⊎ ((eqb (t .window) j ≡ false) × (t .window ≡ j → ⊥)) → (in-terms ts j ≡ true → sum-of ts p ≡ weight-at ts j *ℤ place p j +ℤ sum-but ts p j) → sum-of (t ∷ ts) p ≡ weight-at (t ∷ ts) j *ℤ place p j +ℤ sum-but (t ∷ ts) p j
-    go (inl (e, q)) ih = let n : in-terms ts j ≡ false = rw q at (apart-head t ts a) in let s = sum-none ts p j n in cc
-    go (inr (e, q)) ih = let n : in-terms ts j ≡ true = grind arith in rw (e, ih n) (swap-front (t .weight *ℤ place p (t .window)) (weight-at ts j *ℤ place p j) (sum-but ts p j))
+    back : (s x r : ℤ) → r ≡ s -ℤ x → s ≡ x +ℤ r
+    back s x r e = omega (arith, ints)
 
 -- ---- the test of one window
 gapless : (ts : List Term) (b : ℤ) (exact : Bool) (T : Table) (j : ℕ) → Gapless (sum-passes ts b exact T j)
@@ -172,7 +122,7 @@ unfolding sum-new
 sum-keeps ts b exact a T p m h r j l = go (in-terms ts j) refl
   where
     passes : in-terms ts j ≡ true → sum-passes ts b exact T j (place p j) ≡ true
-    passes q = let s = sum-split ts p j a q in let o = sum-but-bounds ts T p j m r in unfold sum-passes in kept-test exact (sum-of ts p) (weight-at ts j *ℤ place p j) (sum-but ts p j) b (smallest-but ts T j) (largest-but ts T j) s (o .0) (o .1) h
+    passes q = let s = sum-split ts p j a q in unfold sum-passes in kept-test exact (sum-of ts p) (weight-at ts j *ℤ place p j) (total-but (term-at p) ts j) b (smallest-but ts T j) (largest-but ts T j) s (smallest-below ts T p j m r) (largest-above ts T p j m r) h
 
     go : (t : Bool) → in-terms ts j ≡ t → In (place p j) (cond t (kept-by (sum-passes ts b exact T j) (window T j)) (window T j))
     go true q = in-kept (sum-passes ts b exact T j) (window T j) (place p j) (m .each j l) (passes q)
@@ -180,3 +130,13 @@ sum-keeps ts b exact a T p m h r j l = go (in-terms ts j) refl
 
 pub sum-lawful : (ts : List Term) (b : ℤ) (exact : Bool) → Apart ts → Lawful (Of spans) (rule-of (sum-rule ts b exact))
 sum-lawful ts b exact a = lawful (Of spans) (λ s k. k .some) (sum-rule ts b exact) (record { covers = covers ts; smaller = λ T e r j h. sum-smaller ts b exact T j; kinds = λ T e r j h. sum-kinds ts b exact T j (e j h); unread = sum-unread ts b exact; local = sum-local ts b exact; mono = λ T U e f i r j h. sum-mono ts b exact T U e i r j; keeps = λ T p e m h r j l. sum-keeps ts b exact a T p m h r j l })
+
+-- ---- what a book of sums owes
+pub meaning-lawful : (s : Sum) → Lawful (Of spans) (sum-meaning s)
+meaning-lawful s = sum-lawful (terms-of s) (s .bound) (s .exact) (s .different)
+
+pub meaning-near : (s : Sum) (j : ℕ) → sum-meaning s .reads j ≡ true → j < 64
+meaning-near s j h = below-read 64 (terms-of s) j (s .near) h
+
+pub asks-within : (p : PostedSum) (exact : Bool) (n j : ℕ) → sum-asks p n ≡ None → posted-meaning p exact .reads j ≡ true → j < n
+asks-within p exact n j e h = let k = below-read (min n 64) (given p) j (accepted p n e .windows) h in omega arith

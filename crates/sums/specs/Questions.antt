@@ -49,7 +49,7 @@ abbrev pub given : PostedSum → List Term
 given p = take (p .count) (p .terms)
 
 -- what a sum is refused for on n windows; a table has at most 64
-unfoldable pub sum-asks : PostedSum → ℕ → Option BookRefusal
+abbrev pub sum-asks : PostedSum → ℕ → Option BookRefusal
 sum-asks p n =
     cond (not (terms-fit (p .count))) (Some refusal.Terms)
     (cond (not (windows-below (min n 64) (given p))) (Some refusal.Window)

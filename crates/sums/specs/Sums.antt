@@ -33,28 +33,36 @@ term-least T t = least-by (λ v. t .weight *ℤ v) (window T (t .window))
 abbrev pub term-greatest : Table → Term → ℤ
 term-greatest T t = greatest-by (λ v. t .weight *ℤ v) (window T (t .window))
 
+-- what a term is at a placing
+abbrev pub term-at : Placing → Term → ℤ
+term-at p t = t .weight *ℤ place p (t .window)
+
+-- the sum of what f gives each term, and the same without the term of window j
+abbrev pub total : (Term → ℤ) → List Term → ℤ
+total f [] = pos 0
+total f (t ∷ ts) = f t +ℤ total f ts
+
+abbrev pub total-but : (Term → ℤ) → List Term → ℕ → ℤ
+total-but f [] j = pos 0
+total-but f (t ∷ ts) j = cond (eqb (t .window) j) (total-but f ts j) (f t +ℤ total-but f ts j)
+
 -- the smallest and the largest sum that all terms can have
 abbrev pub smallest : List Term → Table → ℤ
-smallest [] T = pos 0
-smallest (t ∷ ts) T = term-least T t +ℤ smallest ts T
+smallest ts T = total (term-least T) ts
 
 abbrev pub largest : List Term → Table → ℤ
-largest [] T = pos 0
-largest (t ∷ ts) T = term-greatest T t +ℤ largest ts T
+largest ts T = total (term-greatest T) ts
 
 -- the smallest and the largest sum that the terms other than window j's can have
 abbrev pub smallest-but : List Term → Table → ℕ → ℤ
-smallest-but [] T j = pos 0
-smallest-but (t ∷ ts) T j = cond (eqb (t .window) j) (smallest-but ts T j) (term-least T t +ℤ smallest-but ts T j)
+smallest-but ts T j = total-but (term-least T) ts j
 
 abbrev pub largest-but : List Term → Table → ℕ → ℤ
-largest-but [] T j = pos 0
-largest-but (t ∷ ts) T j = cond (eqb (t .window) j) (largest-but ts T j) (term-greatest T t +ℤ largest-but ts T j)
+largest-but ts T j = total-but (term-greatest T) ts j
 
 -- the sum of a placing
 abbrev pub sum-of : List Term → Placing → ℤ
-sum-of [] p = pos 0
-sum-of (t ∷ ts) p = t .weight *ℤ place p (t .window) +ℤ sum-of ts p
+sum-of ts p = total (term-at p) ts
 
 -- is w times v at most high and, where the sum is exact, at least low
 abbrev pub weighed : ℤ → Bool → ℤ → ℤ → ℤ → Bool
