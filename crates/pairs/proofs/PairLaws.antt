@@ -15,13 +15,13 @@ use Rattle.windows.specs.Sets.{eqZ, has, In, Within, Rising, meet}
 use Rattle.windows.specs.Kinds.{Kind, Of, Proper, all-but}
 use Rattle.windows.proofs.SetLaws.{tests, never, in-cons, in-here, within-both}
 use Rattle.windows.proofs.KindLaws.{in-meet, meet-in, meet-of, but-within, but-kind, but-mono, but-keeps, meet-either}
-use Rattle.rulebook.specs.Tables.{Table, Placing, window, place, Inside, Places, Every}
+use Rattle.rulebook.specs.Tables.{Table, Placing, window, place, filled, Inside, Places, Every}
 use Rattle.rulebook.specs.Rules.{Agree, Lawful}
 use Rattle.rulebook.specs.Answers.{outcome}
-use Rattle.rules.specs.Pointwise.{rule-of, written}
+use Rattle.rules.specs.Pointwise.{rule-of, Entry, written}
 use Rattle.rules.proofs.PointwiseLaws.{lawful}
-use Rattle.rules.proofs.WritingLaws.{written-made, window-inside}
-use Rattle.pairs.specs.Pairs.{pair-reads, pair-new, pair-rule, lose-sole, differ-rule, same-rule, pair-asks}
+use Rattle.rules.proofs.WritingLaws.{written-made, window-inside, outcome-none, written-none-is, some-filled}
+use Rattle.pairs.specs.Pairs.{pair-reads, pair-new, pair-rule, pair-entries, lose-sole, differ-rule, same-rule, pair-asks}
 
 -- ---- what the two new windows owe
 pub record PairLaws (k : Kind) (f g : List ℤ → List ℤ → List ℤ) (allows : ℤ → ℤ → Bool) : Type 0 where
@@ -203,8 +203,16 @@ pub pair-near : (p q j : ℕ) → p < 64 → q < 64 → pair-reads p q j ≡ tru
 pair-near p q j a b r = grind (arith, tells)
 
 -- ---- what the code writes
-pub pair-written : (f g : List ℤ → List ℤ → List ℤ) (allows : ℤ → ℤ → Bool) (p q : ℕ) (T : Table) (x y : List ℤ) → eqb p q ≡ false → (window T p ≡ [] → ⊥) → (window T q ≡ [] → ⊥) → x ≡ f (window T p) (window T q) → y ≡ g (window T p) (window T q) → written T (record { at = p; new = x } ∷ (record { at = q; new = y } ∷ [])) ≡ outcome (rule-of (pair-rule f g allows p q)) T
-pair-written f g allows p q T x y ne a b ex ey = written-made (pair-rule f g allows p q) T _ (let i = window-inside T p a in let j = window-inside T q b in omega arith) (ex ∙ sym at-p′, (ey ∙ sym at-q′, tt)) (λ j h e. sym (stays j e))
+pub entries-two : (f g : List ℤ → List ℤ → List ℤ) (p q : ℕ) (T : Table) → filled (window T p) ≡ true → filled (window T q) ≡ true → record { at = p; new = f (window T p) (window T q) } ∷ (record { at = q; new = g (window T p) (window T q) } ∷ []) ≡ pair-entries f g p q T
+entries-two f g p q T a b = rw (a, b) refl
+
+pub entries-none : (f g : List ℤ → List ℤ → List ℤ) (p q : ℕ) (T : Table) → (window T p ≡ []) ⊎ (window T q ≡ []) → [] ≡ pair-entries f g p q T
+entries-none f g p q T (inl z) = let e = ap filled z in rw e refl
+entries-none f g p q T (inr z) = let e = ap filled z in let t : (filled (window T p) && filled (window T q)) ≡ false = grind arith in rw t refl
+
+-- they give the rule's outcome
+pub pair-written : (f g : List ℤ → List ℤ → List ℤ) (allows : ℤ → ℤ → Bool) (p q : ℕ) (T : Table) → eqb p q ≡ false → written T (pair-entries f g p q T) ≡ outcome (rule-of (pair-rule f g allows p q)) T
+pair-written f g allows p q T ne = go (filled (window T p)) (filled (window T q)) refl refl
   where
     pp : eqb p p ≡ true
     pp = grind (arith, tells)
@@ -220,3 +228,25 @@ pair-written f g allows p q T x y ne a b ex ey = written-made (pair-rule f g all
 
     stays : (j : ℕ) → (eqb p j || (eqb q j || false)) ≡ false → pair-new f g p q T j ≡ window T j
     stays j e = let u : eqb p j ≡ false = grind arith in let v : eqb q j ≡ false = grind arith in rw (u, v) refl
+
+    some : (s : List ℤ) → filled s ≡ true → s ≡ [] → ⊥
+    some s e z = never (sym (ap filled z) ∙ e)
+
+    none : (s : List ℤ) → filled s ≡ false → s ≡ []
+    none [] e = refl
+    none (v ∷ s) e = never (sym e)
+
+    nothing : (j : ℕ) → window T j ≡ [] → j < max (suc p) (suc q) → pair-entries f g p q T ≡ [] → written T (pair-entries f g p q T) ≡ outcome (rule-of (pair-rule f g allows p q)) T
+    nothing j z h e = ap (written T) e ∙ written-none-is T ∙ sym (outcome-none (pair-rule f g allows p q) T j z h)
+
+    go : (a b : Bool) → filled (window T p) ≡ a → filled (window T q) ≡ b → written T (pair-entries f g p q T) ≡ outcome (rule-of (pair-rule f g allows p q)) T
+    go true true a b = ap (written T) (sym (entries-two f g p q T a b)) ∙ written-made (pair-rule f g allows p q) T (record { at = p; new = f (window T p) (window T q) } ∷ (record { at = q; new = g (window T p) (window T q) } ∷ [])) (let i = window-inside T p (some _ a) in let j = window-inside T q (some _ b) in omega arith) (sym at-p′, (sym at-q′, tt)) (λ j h e. sym (stays j e))
+    go false b x y = let z = none _ x in nothing p z (omega arith) (sym (entries-none f g p q T (inl z)))
+    go true false x y = let z = none _ y in nothing q z (omega arith) (sym (entries-none f g p q T (inr z)))
+
+pub list-written : (f g : List ℤ → List ℤ → List ℤ) (allows : ℤ → ℤ → Bool) (p q : ℕ) (T : Table) (es : List Entry) → eqb p q ≡ false → es ≡ pair-entries f g p q T → written T es ≡ outcome (rule-of (pair-rule f g allows p q)) T
+list-written f g allows p q T es ne e = ap (written T) e ∙ pair-written f g allows p q T ne
+
+-- the two new windows, made from the old ones
+pub two-made : (f g : List ℤ → List ℤ → List ℤ) (p q : ℕ) (T : Table) (x y s t : List ℤ) → s ≡ window T p → t ≡ window T q → 0 < length s → 0 < length t → x ≡ f s t → y ≡ g s t → record { at = p; new = x } ∷ (record { at = q; new = y } ∷ []) ≡ pair-entries f g p q T
+two-made f g p q T x y s t es et ns nt ex ey = ap₂ {C = List Entry} (λ (x y : List ℤ). record { at = p; new = x } ∷ (record { at = q; new = y } ∷ [])) (ex ∙ ap₂ f es et) (ey ∙ ap₂ g es et) ∙ entries-two f g p q T (sym (ap filled es) ∙ some-filled s ns) (sym (ap filled et) ∙ some-filled t nt)

@@ -1,5 +1,5 @@
 -- Rules on two windows of any kind.
-use mathlib.Core.List.{List}
+use mathlib.Core.List.{List, [], _∷_}
 use mathlib.Core.Bool.{Bool, cond, not, _&&_, _||_}
 use Prim.Native.Nat.{ℕ, suc, min, max}
 use lib.Dec.{eqb, ltb}
@@ -8,10 +8,10 @@ use Rattle.std.specs.declared.option.Option.{Option}
 use Rattle.std.specs.declared.option.Option.the-variants.{Some, None}
 use Rattle.windows.specs.Sets.{eqZ, meet, sole-of}
 use Rattle.windows.specs.Kinds.{Kind, all-but}
-use Rattle.rulebook.specs.Tables.{Table, window, place}
+use Rattle.rulebook.specs.Tables.{Table, window, place, filled}
 use Rattle.rulebook.specs.declared.answer.BookRefusal.{BookRefusal}
 use Rattle.rulebook.specs.declared.answer.BookRefusal.the-variants.{Window, Repeated}
-use Rattle.rules.specs.Pointwise.{Pointwise}
+use Rattle.rules.specs.Pointwise.{Pointwise, Entry}
 
 -- is j one of the two windows
 abbrev pub pair-reads : ℕ → ℕ → ℕ → Bool
@@ -23,6 +23,10 @@ pair-new f g p q T j = cond (eqb p j) (f (window T p) (window T q)) (cond (eqb q
 
 abbrev pub pair-rule : (List ℤ → List ℤ → List ℤ) → (List ℤ → List ℤ → List ℤ) → (ℤ → ℤ → Bool) → ℕ → ℕ → Pointwise
 pair-rule f g allows p q = record { reads = pair-reads p q; reach = max (suc p) (suc q); allows = λ P. allows (place P p) (place P q); new = pair-new f g p q }
+
+-- the new windows that are written: none where one of the two windows has no numbers
+abbrev pub pair-entries : (List ℤ → List ℤ → List ℤ) → (List ℤ → List ℤ → List ℤ) → ℕ → ℕ → Table → List Entry
+pair-entries f g p q T = cond (filled (window T p) && filled (window T q)) (record { at = p; new = f (window T p) (window T q) } ∷ (record { at = q; new = g (window T p) (window T q) } ∷ [])) []
 
 -- the window s without this number, if there is one: the smallest window of the kind with all its other numbers
 abbrev pub without : Kind → List ℤ → Option ℤ → List ℤ
@@ -37,9 +41,15 @@ lose-sole k s t = without k s (sole-of t)
 abbrev pub differ-rule : Kind → ℕ → ℕ → Pointwise
 differ-rule k = pair-rule (λ s t. lose-sole k s t) (λ s t. lose-sole k t s) (λ v w. not (eqZ v w))
 
+abbrev pub differ-entries : Kind → ℕ → ℕ → Table → List Entry
+differ-entries k = pair-entries (λ s t. lose-sole k s t) (λ s t. lose-sole k t s)
+
 -- same: the two numbers are the same; both windows become what they share
 abbrev pub same-rule : ℕ → ℕ → Pointwise
 same-rule = pair-rule (λ s t. meet s t) (λ s t. meet s t) (λ v w. eqZ v w)
+
+abbrev pub same-entries : ℕ → ℕ → Table → List Entry
+same-entries = pair-entries (λ s t. meet s t) (λ s t. meet s t)
 
 -- what a rule on windows p and q of n is refused for: a window that is not there, then one that stands twice
 abbrev pub pair-asks : ℕ → ℕ → ℕ → Option BookRefusal

@@ -8,13 +8,11 @@ ghost use Rattle.std.specs.Options.{Cases};
 ghost use Rattle.std.specs.Results.{Cases as ByResult};
 ghost use Rattle.std.specs.declared.option.Option.the-variants.{Some, None};
 ghost use Rattle.rulebook.specs.Tables.{window};
-ghost use Rattle.rulebook.specs.Answers.{outcome, Tells, Rows-kept};
+ghost use Rattle.rulebook.specs.Answers.{outcome};
 ghost use Rattle.rules.specs.Pointwise.{rule-of, written};
-ghost use Rattle.rules.specs.Writing.{numbers-of};
-ghost use Rattle.pairs.specs.Pairs.{pair-reads, pair-asks, lose-sole, differ-rule, same-rule};
+ghost use Rattle.rules.specs.Writing.{numbers-of, listed};
+ghost use Rattle.pairs.specs.Pairs.{pair-reads, pair-asks, lose-sole, differ-rule, differ-entries, same-rule, same-entries};
 use rulebook::BookRefusal;
-use rulebook::Narrowing;
-use rulebook::WindowSet;
 use rules::NewWindows;
 use windows::Window;
 
@@ -70,43 +68,44 @@ impl Pair {
         self.p == j || self.q == j
     }
 
-    // Writes the new windows of both.
-    fn write<W: Window>(&self, first: Option<W>, second: Option<W>, rows: &mut [W::Row]) -> Narrowing
-        ensures equation { λ r. ⌜ Tells (map (W·Window .stands) (now (rows .entry))) (written (map (W·Window .stands) (now (rows .entry))) (record { at = now (self .entry) .p; new = numbers-of (W·Window .numbers) first } ∷ (record { at = now (self .entry) .q; new = numbers-of (W·Window .numbers) second } ∷ []))) r (map (W·Window .stands) (now (rows .exit))) ⌝ }
-        ensures rows { λ r. ⌜ Rows-kept r (now (rows .entry)) (now (rows .exit)) ⌝ }
+    // New windows for both.
+    fn both<W: Window>(&self, first: Option<W>, second: Option<W>) -> NewWindows<W>
+        ensures { λ r. ⌜ listed (W·Window .numbers) (r .items) (r .len) ≡ record { at = now (self .entry) .p; new = numbers-of (W·Window .numbers) first } ∷ (record { at = now (self .entry) .q; new = numbers-of (W·Window .numbers) second } ∷ []) ⌝ }
     {
         let mut new = NewWindows::new();
         new.push(self.p, first);
         new.push(self.q, second);
-        new.write(rows)
+        new
     }
 
-    // Differ: each window loses the sole number of the other.
-    pub fn narrow_differ<W: Window>(&self, rows: &mut [W::Row]) -> Narrowing
-        ensures equation { λ r. ⌜ Tells (map (W·Window .stands) (now (rows .entry))) (outcome (rule-of (differ-rule (W·Window .kind) (now (self .entry) .p) (now (self .entry) .q))) (map (W·Window .stands) (now (rows .entry)))) r (map (W·Window .stands) (now (rows .exit))) ⌝ }
-        ensures rows { λ r. ⌜ Rows-kept r (now (rows .entry)) (now (rows .exit)) ⌝ }
+    // Differ: the new windows that each lost the sole number of the other; none where a window is missing. Written into the
+    // rows they give the rule's outcome.
+    pub fn differ<W: Window>(&self, rows: &[W::Row]) -> NewWindows<W>
+        ensures equation { λ r. ⌜ listed (W·Window .numbers) (r .items) (r .len) ≡ differ-entries (W·Window .kind) (now (self .entry) .p) (now (self .entry) .q) (map (W·Window .stands) (now (rows .entry))) ⌝ }
+        ensures outcome { λ r. ⌜ written (map (W·Window .stands) (now (rows .entry))) (listed (W·Window .numbers) (r .items) (r .len)) ≡ outcome (rule-of (differ-rule (W·Window .kind) (now (self .entry) .p) (now (self .entry) .q))) (map (W·Window .stands) (now (rows .entry))) ⌝ }
     {
         let Some(first) = window_at::<W>(rows, self.p) else {
-            return Narrowing::Changed(WindowSet::empty());
+            return NewWindows::new();
         };
         let Some(second) = window_at::<W>(rows, self.q) else {
-            return Narrowing::Changed(WindowSet::empty());
+            return NewWindows::new();
         };
-        self.write(lose_sole(&first, &second), lose_sole(&second, &first), rows)
+        self.both(lose_sole(&first, &second), lose_sole(&second, &first))
     }
 
-    // Same: both windows become what they share.
-    pub fn narrow_same<W: Window>(&self, rows: &mut [W::Row]) -> Narrowing
-        ensures equation { λ r. ⌜ Tells (map (W·Window .stands) (now (rows .entry))) (outcome (rule-of (same-rule (now (self .entry) .p) (now (self .entry) .q))) (map (W·Window .stands) (now (rows .entry)))) r (map (W·Window .stands) (now (rows .exit))) ⌝ }
-        ensures rows { λ r. ⌜ Rows-kept r (now (rows .entry)) (now (rows .exit)) ⌝ }
+    // Same: what both windows share, for both; none where a window is missing. Written into the rows it gives the rule's
+    // outcome.
+    pub fn same<W: Window>(&self, rows: &[W::Row]) -> NewWindows<W>
+        ensures equation { λ r. ⌜ listed (W·Window .numbers) (r .items) (r .len) ≡ same-entries (now (self .entry) .p) (now (self .entry) .q) (map (W·Window .stands) (now (rows .entry))) ⌝ }
+        ensures outcome { λ r. ⌜ written (map (W·Window .stands) (now (rows .entry))) (listed (W·Window .numbers) (r .items) (r .len)) ≡ outcome (rule-of (same-rule (now (self .entry) .p) (now (self .entry) .q))) (map (W·Window .stands) (now (rows .entry))) ⌝ }
     {
         let Some(first) = window_at::<W>(rows, self.p) else {
-            return Narrowing::Changed(WindowSet::empty());
+            return NewWindows::new();
         };
         let Some(second) = window_at::<W>(rows, self.q) else {
-            return Narrowing::Changed(WindowSet::empty());
+            return NewWindows::new();
         };
         let shared = first.meet(&second);
-        self.write(shared, shared, rows)
+        self.both(shared, shared)
     }
 }

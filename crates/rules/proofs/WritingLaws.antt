@@ -371,8 +371,14 @@ outcome-none c T j z h = go (all-filled T) refl (le-or-lt (length T) j)
     go true e (inl l) = ap (λ b. cond b (rule-of c .narrow T) (narrowed T)) e ∙ guard-no c T (omega arith)
     go true e (inr l) = let f = full-window T e j l in let g = ap filled z in let y : _≡_ {A = ℕ} 0 1 = cc in absurd (omega arith)
 
-pub tells-nothing : (c : Pointwise) (T : Table) (j : ℕ) (s : WindowSet) → window T j ≡ [] → j < c .reach → ((i : ℕ) → member s i ≡ false) → Tells T (outcome (rule-of c) T) (Changed s) T
-tells-nothing c T j s z h n = subst (λ o. Tells T o (Changed s) T) (sym (outcome-none c T j z h)) (refl, λ i. n i ∙ sym (same-window T i))
+-- no new windows
+pub written-none-is : (T : Table) → written T [] ≡ narrowed T
+unfolding judged
+written-none-is T = go (all-filled T) refl
+  where
+    go : (b : Bool) → all-filled T ≡ b → written T [] ≡ narrowed T
+    go true e = let f = full-end T e in let t : ltb (empty-at T) (length T) ≡ false = grind (arith, tells) in rw e (rw t refl)
+    go false e = rw e refl
 
 -- the numbers of a call's answer
 pub numbers-is : {W : Type 0} (numbers : W → List ℤ) (o : Option W) (s : List ℤ) → Cases o (s ≡ []) (λ w. numbers w ≡ s) → numbers-of numbers o ≡ s
