@@ -8,6 +8,7 @@ use native.Mathlib.Omega.{arith}
 use lib.Dec.{ltb, eqb}
 use lib.ListN.{length, getD, set, drop, take}
 use lib.IntN.{ℤ}
+use Rattle.std.specs.shelf.Lists.{All}
 use Rattle.std.specs.Options.{isSome, Cases}
 use Rattle.std.specs.declared.option.Option.{Option}
 use Rattle.std.specs.declared.option.Option.the-variants.{Some, None}
@@ -17,13 +18,13 @@ use Rattle.windows.specs.Sets.{same-set}
 use Rattle.windows.proofs.SpanLaws.{same-set-self, same-set-is}
 use Rattle.rulebook.specs.Tables.{Table, window, differs, filled, all-filled}
 use Rattle.rulebook.specs.Rules.{Outcome, narrowed, emptied}
-use Rattle.rulebook.specs.Answers.{member, Tells}
+use Rattle.rulebook.specs.Answers.{member, outcome, Tells}
 use Rattle.rulebook.specs.declared.answer.Narrowing.the-variants.{Changed, Emptied}
 use Rattle.rulebook.specs.declared.set.WindowSet.{WindowSet}
-use Rattle.rules.specs.Pointwise.{empty-at, judged, Entry, has-entry, distinct, replaced, written}
+use Rattle.rules.specs.Pointwise.{empty-at, judged, narrow-by, Pointwise, rule-of, Entry, has-entry, distinct, replaced, written}
 use Rattle.rules.specs.declared.new_windows.NewWindow.{NewWindow}
 use Rattle.rules.specs.Writing.{numbers-of, entry, listed, near, pushed, lowest-emptied, Others-kept}
-use Rattle.rules.proofs.PointwiseLaws.{replaced-length}
+use Rattle.rules.proofs.PointwiseLaws.{replaced-length, replaced-made, guard-yes, guard-no, le-or-lt}
 
 -- ---- the lowest emptied window
 -- the first empty window, after one that had numbers is another
@@ -347,3 +348,39 @@ or-false false = refl
 pub no-new : {W : Type 0} (numbers : W → List ℤ) (o : Option W) → ((w : W) → o ≡ Some w → ⊥) → numbers-of numbers o ≡ []
 no-new numbers None h = refl
 no-new numbers (Some w) h = absurd (h w refl)
+
+-- ---- what a rule's code owes
+-- a window that has numbers is in the table
+pub window-inside : (T : Table) (j : ℕ) → (window T j ≡ [] → ⊥) → j < length T
+window-inside T j h = go (le-or-lt (length T) j)
+  where
+    go : (length T ≤ j) ⊎ (j < length T) → j < length T
+    go (inl l) = absurd (h (getD-past T j [] l))
+    go (inr l) = l
+
+-- new windows that hold what the rule makes, one for each window that it changes, give the rule's outcome
+pub written-made : (c : Pointwise) (T : Table) (es : List Entry) → c .reach ≤ length T → All (λ e. e .new ≡ c .new T (e .at)) es → ((j : ℕ) → j < length T → has-entry es j ≡ false → window T j ≡ c .new T j) → written T es ≡ outcome (rule-of c) T
+written-made c T es r a k = ap (λ o. cond (all-filled T) o (narrowed T)) (ap judged (replaced-made (c .new) T es a k) ∙ sym (guard-yes c T r ∙ unfold narrow-by in refl))
+
+-- where a window that the rule reads has no numbers, nothing is done
+pub outcome-none : (c : Pointwise) (T : Table) (j : ℕ) → window T j ≡ [] → j < c .reach → outcome (rule-of c) T ≡ narrowed T
+outcome-none c T j z h = go (all-filled T) refl (le-or-lt (length T) j)
+  where
+    go : (b : Bool) → all-filled T ≡ b → (length T ≤ j) ⊎ (j < length T) → outcome (rule-of c) T ≡ narrowed T
+    go false e l = rw e refl
+    go true e (inl l) = ap (λ b. cond b (rule-of c .narrow T) (narrowed T)) e ∙ guard-no c T (omega arith)
+    go true e (inr l) = let f = full-window T e j l in let g = ap filled z in let y : _≡_ {A = ℕ} 0 1 = cc in absurd (omega arith)
+
+-- no new windows
+pub written-none-is : (T : Table) → written T [] ≡ narrowed T
+unfolding judged
+written-none-is T = go (all-filled T) refl
+  where
+    go : (b : Bool) → all-filled T ≡ b → written T [] ≡ narrowed T
+    go true e = let f = full-end T e in let t : ltb (empty-at T) (length T) ≡ false = grind (arith, tells) in rw e (rw t refl)
+    go false e = rw e refl
+
+-- the numbers of a call's answer
+pub numbers-is : {W : Type 0} (numbers : W → List ℤ) (o : Option W) (s : List ℤ) → Cases o (s ≡ []) (λ w. numbers w ≡ s) → numbers-of numbers o ≡ s
+numbers-is numbers None s h = sym h
+numbers-is numbers (Some w) s h = h
