@@ -1,2 +1,3 @@
 pub mod PointwiseLaws
 pub mod WritingLaws
+pub mod BookLaws

@@ -1,2 +1,3 @@
 pub mod Pointwise
 pub mod Writing
+pub mod Books
