@@ -2,16 +2,16 @@
 use mathlib.Core.Path.{_≡_, refl, sym, ap, ap₂, subst₂, _∙_}
 use mathlib.Core.List.{[]}
 use mathlib.Core.Bool.{Bool, true, false, not, cond, _&&_, _||_}
-use Prim.Native.Nat.{ℕ, zero, suc, _+_, _*_, _≤_, _<_}
+use Prim.Native.Nat.{ℕ, zero, suc, _*_, _≤_, _<_}
 use native.Mathlib.Nat.{mul-le-mul, mul-comm, div-lt-iff-lt-mul, le-div-iff-mul-le, div-le-self}
 use native.Mathlib.Omega.{arith}
-use lib.IntN.{ℤ, pos, negsuc, negℤ, natAbs, negℤ-negℤ, +ℤ-idl, _+ℤ_, _-ℤ_, _*ℤ_}
+use lib.IntN.{ℤ, pos, negsuc, negℤ, natAbs, negℤ-negℤ, +ℤ-idl, _-ℤ_, _*ℤ_}
 use lib.Signed.{leZ, ltZ, _<ℤ_, _≤ℤ_}
 use Rattle.std.specs.Numbers.{minZ, maxZ, divEuclid}
 use Rattle.std.proofs.shelf.Signed.{ints, clamps}
 use Rattle.std.proofs.shelf.Ways.{tells}
 use lib.Dec.{leb}
-use mir.Syntax.{w32}
+use mir.Syntax.{w32, w64}
 use mir.Val.{SFits}
 use Rattle.windows.specs.Sets.{range, between, least-by, greatest-by}
 use Rattle.windows.specs.Rows.{Stands}
@@ -153,6 +153,9 @@ quotients-neg (negsuc n) exact low high size above below h s a b v l =
     let q = quotients-down n exact low high v l in
     let z = +ℤ-idl (negℤ above) in
     q ∙ ap₂ (λ x y. between x y v) (cc) (cc)
+
+pub widen : {z : ℤ} → SFits w32 z → SFits w64 z
+widen f = omega (arith, ints)
 
 -- the ends of a row that is clipped
 pub clipped-ends : (lo hi l h from to : ℤ) → Stands lo hi → l ≡ maxZ lo from → h ≡ minZ hi to → ltZ h l ≡ false → Stands l h × (range l h ≡ range (maxZ lo from) (minZ hi to))

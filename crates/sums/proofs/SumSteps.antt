@@ -208,11 +208,9 @@ entries-outcome ts b exact T e =
     let m = replaced-made (sum-new ts b exact) T (entries f ts) (entries-hold f ts) (λ j h q. sym (sum-unread ts b exact T j (sym (has-entries f ts j) ∙ q))) in
     ap (λ U. cond (all-filled T) (judged U) (narrowed T)) m ∙ sym (ap (λ t. cond (all-filled T) (cond t (narrow-by (sum-new ts b exact) T) (narrowed T)) (narrowed T)) r)
 
--- what a narrowing tells, by the terms xs that it was computed from
-pub tells-some : (xs : List Term) (b : ℤ) (exact : Bool) (T U : Table) (es : List Entry) (r : Narrowing) (ts : List Term) → xs ≡ ts → all-read xs T ≡ true → es ≡ entries (sum-new xs b exact T) xs → Tells T (written T es) r U → Tells T (outcome (rule-of (sum-rule ts b exact)) T) r U
-tells-some xs b exact T U es r ts q a e t =
-    subst (λ l. Tells T (outcome (rule-of (sum-rule l b exact)) T) r U) q (subst (λ o. Tells T o r U) (ap (written T) e ∙ entries-outcome xs b exact T a) t)
+-- what a narrowing tells
+pub tells-some : (ts : List Term) (b : ℤ) (exact : Bool) (T U : Table) (es : List Entry) (r : Narrowing) → all-read ts T ≡ true → es ≡ entries (sum-new ts b exact T) ts → Tells T (written T es) r U → Tells T (outcome (rule-of (sum-rule ts b exact)) T) r U
+tells-some ts b exact T U es r a e t = subst (λ o. Tells T o r U) (ap (written T) e ∙ entries-outcome ts b exact T a) t
 
-pub tells-none : (xs : List Term) (b : ℤ) (exact : Bool) (T : Table) (ts : List Term) (s : WindowSet) → xs ≡ ts → all-read xs T ≡ false → ((j : ℕ) → member s j ≡ false) → Tells T (outcome (rule-of (sum-rule ts b exact)) T) (Changed s) T
-tells-none xs b exact T ts s q a e =
-    subst (λ l. Tells T (outcome (rule-of (sum-rule l b exact)) T) (Changed s) T) q (subst (λ o. Tells T o (Changed s) T) (sym (unread-outcome xs b exact T a)) (refl, λ j. e j ∙ sym (same-window T j)))
+pub tells-none : (ts : List Term) (b : ℤ) (exact : Bool) (T : Table) (s : WindowSet) → all-read ts T ≡ false → ((j : ℕ) → member s j ≡ false) → Tells T (outcome (rule-of (sum-rule ts b exact)) T) (Changed s) T
+tells-none ts b exact T s a e = subst (λ o. Tells T o (Changed s) T) (sym (unread-outcome ts b exact T a)) (refl, λ j. e j ∙ sym (same-window T j))

@@ -29,6 +29,7 @@ abbrev pub apart : List Term → Bool
 apart [] = true
 apart (t ∷ ts) = not (in-terms ts (t .window)) && apart ts
 
+-- no window stands in two terms
 abbrev pub Apart : List Term → Type 0
 Apart ts = apart ts ≡ true
 
@@ -36,6 +37,7 @@ Apart ts = apart ts ≡ true
 abbrev pub weighs : ℤ → Bool
 weighs w = between (negsuc 9999) (pos 10000) w && not (eqZ w (pos 0))
 
+-- does every weight fit
 abbrev pub weights-fit : List Term → Bool
 weights-fit [] = true
 weights-fit (t ∷ ts) = weighs (t .weight) && weights-fit ts

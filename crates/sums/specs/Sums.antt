@@ -73,6 +73,7 @@ weighed w exact low high v = leZ (w *ℤ v) high && (not exact || leZ low (w *�
 unfoldable pub sum-passes : List Term → ℤ → Bool → Table → ℕ → ℤ → Bool
 sum-passes ts b exact T j v = weighed (weight-at ts j) exact (b -ℤ largest-but ts T j) (b -ℤ smallest-but ts T j) v
 
+-- the new window j: a window of no term keeps all its numbers
 unfoldable pub sum-new : List Term → ℤ → Bool → Table → ℕ → List ℤ
 sum-new ts b exact T j = cond (in-terms ts j) (kept-by (sum-passes ts b exact T j) (window T j)) (window T j)
 
@@ -80,5 +81,6 @@ sum-new ts b exact T j = cond (in-terms ts j) (kept-by (sum-passes ts b exact T 
 abbrev pub sum-allows : List Term → ℤ → Bool → Placing → Bool
 sum-allows ts b exact p = leZ (sum-of ts p) b && (not exact || leZ b (sum-of ts p))
 
+-- the rule that the sum of the terms equals b or, unless it is exact, is at most b
 abbrev pub sum-rule : List Term → ℤ → Bool → Pointwise
 sum-rule ts b exact = record { reads = in-terms ts; reach = terms-reach ts; allows = sum-allows ts b exact; new = sum-new ts b exact }

@@ -64,6 +64,7 @@ fn weighs(weight: i32) -> bool
     weight >= -10_000 && weight <= 10_000
 }
 
+// Does every weight fit?
 fn weights_fit(terms: &[Term]) -> bool
     ensures { λ r. ⌜ r ≡ weights-fit (now (terms .entry)) ⌝ }
 {

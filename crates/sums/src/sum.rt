@@ -4,6 +4,7 @@ ghost use mathlib.Core.Bool.{true};
 ghost use Prim.Native.Nat.{_<_, _≤_};
 ghost use lib.ListN.{take};
 ghost use Rattle.sums.specs.Questions.{windows-below, apart, weights-fit, bound-fits};
+
 mod check;
 mod narrow;
 

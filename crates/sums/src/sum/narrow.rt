@@ -11,7 +11,8 @@ ghost use Rattle.windows.specs.Sets.{range, between, least-by, greatest-by};
 ghost use Rattle.windows.specs.Rows.{Stands, span-numbers};
 ghost use Rattle.rulebook.specs.Tables.{window};
 ghost use Rattle.rulebook.specs.Answers.{outcome, Tells, Rows-kept};
-ghost use Rattle.sums.specs.Sums.{weighed, sum-new};
+ghost use Rattle.rules.specs.Pointwise.{rule-of};
+ghost use Rattle.sums.specs.Sums.{weighed, sum-new, sum-rule};
 ghost use Rattle.sums.specs.Questions.{bound-fits};
 ghost use Rattle.sums.specs.Meaning.{sum-meaning};
 ghost use Rattle.sums.specs.Sizes.{Weighs, Small};
@@ -180,16 +181,24 @@ fn new_windows(
     new
 }
 
+// Narrows the rows by the sum of the terms.
+fn narrow_terms(terms: &[Term], bound: i32, exact: bool, rows: &mut [SpanRow]) -> Narrowing
+    requires { ⌜ Fit (now terms) ⌝ ∗ ⌜ bound-fits bound ≡ true ⌝ }
+    ensures equation { λ r. ⌜ Tells (map span-numbers (now (rows .entry))) (outcome (rule-of (sum-rule (now (terms .entry)) bound exact)) (map span-numbers (now (rows .entry)))) r (map span-numbers (now (rows .exit))) ⌝ }
+    ensures rows { λ r. ⌜ Rows-kept r (now (rows .entry)) (now (rows .exit)) ⌝ }
+{
+    match sum_extremes(terms, rows) {
+        Some(sums) => new_windows(terms, bound, exact, sums, rows).write(rows),
+        None => Narrowing::Changed(WindowSet::empty()),
+    }
+}
+
 impl Sum {
     // Narrows the rows by the sum. A sum that reads beyond the rows, and rows of which one fails its check, change nothing.
     pub fn narrow(&self, rows: &mut [SpanRow]) -> Narrowing
         ensures equation { λ r. ⌜ Tells (map span-numbers (now (rows .entry))) (outcome (sum-meaning (now (self .entry))) (map span-numbers (now (rows .entry)))) r (map span-numbers (now (rows .exit))) ⌝ }
         ensures rows { λ r. ⌜ Rows-kept r (now (rows .entry)) (now (rows .exit)) ⌝ }
     {
-        let terms = &self.terms[0..self.len];
-        match sum_extremes(terms, rows) {
-            Some(sums) => new_windows(terms, self.bound, self.exact, sums, rows).write(rows),
-            None => Narrowing::Changed(WindowSet::empty()),
-        }
+        narrow_terms(&self.terms[0..self.len], self.bound, self.exact, rows)
     }
 }

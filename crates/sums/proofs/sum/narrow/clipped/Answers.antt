@@ -1,17 +1,12 @@
-use native.Mathlib.Omega.{arith}
 use borrow.Author.Needs.{needs}
-use lib.IntN.{ℤ}
 use mir.Syntax.{w32, w64}
 use mir.Val.{ofZ, toZ, SFits}
-use Rattle.std.proofs.shelf.Signed.{ints, toZ-ofZ}
+use Rattle.std.proofs.shelf.Signed.{toZ-ofZ}
 use Rattle.windows.specs.declared.span.SpanRow.{SpanRow}
 use Rattle.windows.proofs.SpanLaws.{fits-lo, fits-hi}
-use Rattle.sums.proofs.SumCode.{clipped-ends, clipped-fits, clipped-none}
+use Rattle.sums.proofs.SumCode.{widen, clipped-ends, clipped-fits, clipped-none}
 use Rattle.sums.proofs.SumSteps.{window-from}
 use Rattle.sums.proofs.sum.narrow.clipped.Needs as need
-
-widen : {z : ℤ} → SFits w32 z → SFits w64 z
-widen f = omega (arith, ints)
 
 pub returns-then-lo-hi : need.returns-then-lo-hi
 returns-then-lo-hi c =

@@ -36,14 +36,15 @@ loop-term-again c =
     let fb = c .fits .bound in
     let fl : SFits w64 (c .args .sums .least) = search needs in
     let fg : SFits w64 (c .args .sums .greatest) = search needs in
-    elim (c .match-row-at .came)
-    [ in-Some w ↦
-        let r = w .in-Some .ensures tt in
-        let kl = fits-lo _ _ (r .0) in
-        let kh = fits-hi _ _ (r .0) in
-        let new = numbers-window _ (w .new-window .result) (simp toZ-ofZ at (w .new-window .ensures)) ∙ row-new ts b exact T i _ _ _ _ h (fit .different) (sums .1) (sums .2) (sym (r .1)) in
-        simp toZ-ofZ (ap new-entries (w .new-is) ∙ entries-more (sum-new ts b exact T) ts i _ _ _ fit h (simp toZ-ofZ at (c .loop-term .inv)) new (w .push .ensures))
-    | in-rest w ↦ absurd (read-at T ts i h (sums .0) (w .in-rest .ensures tt)) ]
+    elim (c .match-row-at .came) [
+      | in-Some w ↦
+          let r = w .in-Some .ensures tt in
+          let kl = fits-lo _ _ (r .0) in
+          let kh = fits-hi _ _ (r .0) in
+          let new = numbers-window _ (w .new-window .result) (simp toZ-ofZ at (w .new-window .ensures)) ∙ row-new ts b exact T i _ _ _ _ h (fit .different) (sums .1) (sums .2) (sym (r .1)) in
+          simp toZ-ofZ (ap new-entries (w .new-is) ∙ entries-more (sum-new ts b exact T) ts i _ _ _ fit h (simp toZ-ofZ at (c .loop-term .inv)) new (w .push .ensures))
+      | in-rest w ↦ absurd (read-at T ts i h (sums .0) (w .in-rest .ensures tt))
+    ]
 
 pub returns : need.returns
 returns c =

@@ -1,12 +1,12 @@
 use native.Mathlib.Omega.{arith}
 use borrow.Author.Needs.{needs}
-use mir.Syntax.{w32, w64}
+use mir.Syntax.{w64}
 use mir.Val.{SFits}
 use lib.IntN.{ℤ, pos, _-ℤ_}
 use lib.Signed.{_<ℤ_}
 use Rattle.std.proofs.shelf.Signed.{ints, toZ-ofZ}
 use Rattle.sums.specs.Sizes.{Small}
-use Rattle.sums.proofs.SumCode.{quotients-pos, quotients-neg}
+use Rattle.sums.proofs.SumCode.{widen, quotients-pos, quotients-neg}
 use Rattle.sums.proofs.sum.narrow.quotients.Needs as need
 
 fits : (z : ℤ) → Small 1000000000000 z → SFits w64 z
@@ -14,9 +14,6 @@ fits z s = omega (arith, ints)
 
 fits-neg : (z : ℤ) → Small 1000000000000 z → SFits w64 (pos 0 -ℤ z)
 fits-neg z s = omega (arith, ints)
-
-widen : {z : ℤ} → SFits w32 z → SFits w64 z
-widen f = omega (arith, ints)
 
 pub returns-then-weight-gt0 : need.returns-then-weight-gt0
 returns-then-weight-gt0 c v l h =
