@@ -14,8 +14,8 @@ use Rattle.windows.specs.declared.span.SpanRow.{SpanRow}
 use Rattle.listing.specs.declared.shown.Fields.{Fields}
 use Rattle.listing.specs.declared.shown.Fields.the-variants.{Ends}
 use Rattle.listing.specs.declared.text.Text.{Text}
-use Rattle.listing.specs.declared.verdict.Verdict.{Verdict}
-use Rattle.listing.specs.declared.verdict.Verdict.the-variants.{Settled, Impossible}
+use Rattle.plan.specs.declared.answer.Verdict.{Verdict}
+use Rattle.plan.specs.declared.answer.Verdict.the-variants.{Settled, Impossible}
 
 -- what was written so far
 abbrev pub written : Text → List ℕ

@@ -1,1 +1,3 @@
 pub mod TermLaws
+pub mod WindowLaws
+pub mod ReadingLaws

@@ -7,7 +7,7 @@ ghost use Rattle.listing.specs.Lines.{written, counted, field, head-line, word
 use super::Text;
 use crate::shown::Fields;
 use crate::shown::Shown;
-use crate::verdict::Verdict;
+use plan::Verdict;
 
 // A number and the byte behind it.
 fn count(text: &mut Text, n: u64, end: u8)
@@ -50,11 +50,15 @@ fn write_head(text: &mut Text, verdict: Verdict)
     ensures bound { λ _. ⌜ now (text .exit) .len ≤ 80 ⌝ }
 {
     match verdict {
-        Verdict::Settled(steps) => {
+        Verdict::Settled { steps } => {
             text.push_all(b"settled ");
             count(text, steps, b'\n');
         }
-        Verdict::Impossible(steps, rule, window) => {
+        Verdict::Impossible {
+            steps,
+            rule,
+            window,
+        } => {
             text.push_all(b"impossible ");
             count(text, steps, b' ');
             count(text, rule as u64, b' ');
@@ -120,8 +124,8 @@ fn write_listing<R: Shown>(text: &mut Text, verdict: Verdict, rows: &[R], given:
 {
     write_head(text, verdict);
     match verdict {
-        Verdict::Settled(_) => write_lines(text, rows, given),
-        Verdict::Impossible(..) => {}
+        Verdict::Settled { .. } => write_lines(text, rows, given),
+        Verdict::Impossible { .. } => {}
     }
 }
 
