@@ -55,6 +55,14 @@ impl<R: BookRule> Book<R> {
         false
     }
 
+    // How many of the first k rules there are.
+    fn count_to(&self, k: usize) -> usize
+        ensures few { λ r. ⌜ r ≤ 64 ⌝ }
+        ensures rules { λ r. ⌜ slot-rules (R·BookRule .rule) (now (self .entry) .slots) r ≡ take k (slot-rules (R·BookRule .rule) (now (self .entry) .slots) (now (self .entry) .len)) ⌝ }
+    {
+        if k < self.len { k } else { self.len }
+    }
+
     // How many rules the book holds.
     pub fn count(&self) -> usize
         ensures { λ r. ⌜ r ≡ length (slot-rules (R·BookRule .rule) (now (self .entry) .slots) (now (self .entry) .len)) ⌝ }
@@ -118,8 +126,6 @@ impl<R: BookRule> Book<R> {
     pub fn shorten(&mut self, k: usize)
         ensures { λ _. ⌜ slot-rules (R·BookRule .rule) (now (self .exit) .slots) (now (self .exit) .len) ≡ take k (slot-rules (R·BookRule .rule) (now (self .entry) .slots) (now (self .entry) .len)) ⌝ }
     {
-        if k < self.len {
-            self.len = k;
-        }
+        self.len = self.count_to(k);
     }
 }
