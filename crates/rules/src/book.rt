@@ -58,6 +58,7 @@ impl<R: BookRule> Book<R> {
     // How many of the first k rules there are.
     fn count_to(&self, k: usize) -> usize
         ensures few { λ r. ⌜ r ≤ 64 ⌝ }
+        ensures whole { λ r. ⌜ (64 ≤ k → r ≡ length (slot-rules (R·BookRule .rule) (now (self .entry) .slots) (now (self .entry) .len))) ⌝ }
         ensures rules { λ r. ⌜ slot-rules (R·BookRule .rule) (now (self .entry) .slots) r ≡ take k (slot-rules (R·BookRule .rule) (now (self .entry) .slots) (now (self .entry) .len)) ⌝ }
     {
         if k < self.len { k } else { self.len }
@@ -67,7 +68,7 @@ impl<R: BookRule> Book<R> {
     pub fn count(&self) -> usize
         ensures { λ r. ⌜ r ≡ length (slot-rules (R·BookRule .rule) (now (self .entry) .slots) (now (self .entry) .len)) ⌝ }
     {
-        self.len
+        self.count_to(FULL)
     }
 
     // One more than the highest window that a rule reads, 0 if none reads any.
