@@ -21,7 +21,7 @@ use Rattle.rulebook.specs.Answers.{outcome}
 use Rattle.rules.specs.Pointwise.{rule-of, Entry, written}
 use Rattle.rules.proofs.PointwiseLaws.{lawful}
 use Rattle.rules.proofs.WritingLaws.{written-made, window-inside, outcome-none, written-none-is, some-filled}
-use Rattle.pairs.specs.Pairs.{pair-reads, pair-new, pair-rule, pair-entries, lose-sole, differ-rule, same-rule, pair-asks}
+use Rattle.pairs.specs.Pairs.{Apart, pair-reads, pair-new, pair-rule, pair-entries, lose-sole, differ-rule, same-rule, pair-asks}
 
 -- ---- what the two new windows owe
 pub record PairLaws (k : Kind) (f g : List ℤ → List ℤ → List ℤ) (allows : ℤ → ℤ → Bool) : Type 0 where
@@ -199,8 +199,8 @@ pair-within p q n j a r = go (ltb p (min n 64) && ltb q (min n 64)) refl
         none-some e = let y = rw e at a in cc
 
 -- a pair of windows below 64 reads only those
-pub pair-near : (p q j : ℕ) → p < 64 → q < 64 → pair-reads p q j ≡ true → j < 64
-pair-near p q j a b r = grind (arith, tells)
+pub pair-near : (p q j : ℕ) → Apart p q → pair-reads p q j ≡ true → j < 64
+pair-near p q j a r = let x = a .0 in let y = a .1 in grind (arith, tells)
 
 -- ---- what the code writes
 pub entries-two : (f g : List ℤ → List ℤ → List ℤ) (p q : ℕ) (T : Table) → filled (window T p) ≡ true → filled (window T q) ≡ true → record { at = p; new = f (window T p) (window T q) } ∷ (record { at = q; new = g (window T p) (window T q) } ∷ []) ≡ pair-entries f g p q T

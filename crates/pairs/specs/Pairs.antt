@@ -1,7 +1,8 @@
 -- Rules on two windows of any kind.
+use mathlib.Core.Path.{_≡_}
 use mathlib.Core.List.{List, [], _∷_}
-use mathlib.Core.Bool.{Bool, cond, not, _&&_, _||_}
-use Prim.Native.Nat.{ℕ, suc, min, max}
+use mathlib.Core.Bool.{Bool, false, cond, not, _&&_, _||_}
+use Prim.Native.Nat.{ℕ, suc, _<_, min, max}
 use lib.Dec.{eqb, ltb}
 use lib.IntN.{ℤ}
 use Rattle.std.specs.declared.option.Option.{Option}
@@ -12,6 +13,10 @@ use Rattle.rulebook.specs.Tables.{Table, window, place, filled}
 use Rattle.rulebook.specs.declared.answer.BookRefusal.{BookRefusal}
 use Rattle.rulebook.specs.declared.answer.BookRefusal.the-variants.{Window, Repeated}
 use Rattle.rules.specs.Pointwise.{Pointwise, Entry}
+
+-- two windows that a table can have
+abbrev pub Apart : ℕ → ℕ → Type 0
+Apart p q = (p < 64) × (q < 64) × (eqb p q ≡ false)
 
 -- is j one of the two windows
 abbrev pub pair-reads : ℕ → ℕ → ℕ → Bool

@@ -1,9 +1,6 @@
 // Two windows, and the rules on them.
 ghost use mathlib.Core.Path.{_≡_};
-ghost use mathlib.Core.List.{List, [], _∷_, map};
-ghost use mathlib.Core.Bool.{false};
-ghost use Prim.Native.Nat.{ℕ, _<_};
-ghost use lib.Dec.{eqb};
+ghost use mathlib.Core.List.{[], _∷_, map};
 ghost use Rattle.std.specs.Options.{Cases};
 ghost use Rattle.std.specs.Results.{Cases as ByResult};
 ghost use Rattle.std.specs.declared.option.Option.the-variants.{Some, None};
@@ -11,7 +8,7 @@ ghost use Rattle.rulebook.specs.Tables.{window};
 ghost use Rattle.rulebook.specs.Answers.{outcome};
 ghost use Rattle.rules.specs.Pointwise.{rule-of, written};
 ghost use Rattle.rules.specs.Writing.{numbers-of, listed};
-ghost use Rattle.pairs.specs.Pairs.{pair-reads, pair-asks, lose-sole, differ-rule, differ-entries, same-rule, same-entries};
+ghost use Rattle.pairs.specs.Pairs.{Apart, pair-reads, pair-asks, lose-sole, differ-rule, differ-entries, same-rule, same-entries};
 use rulebook::BookRefusal;
 use rules::NewWindows;
 use windows::Window;
@@ -21,8 +18,7 @@ use windows::Window;
 pub struct Pair {
     p: usize,
     q: usize,
-    ghost close: { (p < 64) × (q < 64) },
-    ghost apart: { eqb p q ≡ false },
+    ghost apart: { Apart p q },
 }
 
 // Window j of the rows; none past their end, and where the row fails its check.
@@ -44,6 +40,48 @@ fn lose_sole<W: Window>(own: &W, other: &W) -> Option<W>
         Some(v) => own.without(v),
         None => Some(*own),
     }
+}
+
+// New windows for windows p and q.
+fn both<W: Window>(p: usize, q: usize, first: Option<W>, second: Option<W>) -> NewWindows<W>
+    requires { ⌜ Apart p q ⌝ }
+    ensures { λ r. ⌜ listed (W·Window .numbers) (r .items) (r .len) ≡ record { at = p; new = numbers-of (W·Window .numbers) first } ∷ (record { at = q; new = numbers-of (W·Window .numbers) second } ∷ []) ⌝ }
+{
+    let mut new = NewWindows::new();
+    new.push(p, first);
+    new.push(q, second);
+    new
+}
+
+// What windows p and q become where they differ; nothing where one is missing.
+fn differ_at<W: Window>(p: usize, q: usize, rows: &[W::Row]) -> NewWindows<W>
+    requires { ⌜ Apart p q ⌝ }
+    ensures equation { λ r. ⌜ listed (W·Window .numbers) (r .items) (r .len) ≡ differ-entries (W·Window .kind) p q (map (W·Window .stands) (now (rows .entry))) ⌝ }
+    ensures outcome { λ r. ⌜ written (map (W·Window .stands) (now (rows .entry))) (listed (W·Window .numbers) (r .items) (r .len)) ≡ outcome (rule-of (differ-rule (W·Window .kind) p q)) (map (W·Window .stands) (now (rows .entry))) ⌝ }
+{
+    let Some(first) = window_at::<W>(rows, p) else {
+        return NewWindows::new();
+    };
+    let Some(second) = window_at::<W>(rows, q) else {
+        return NewWindows::new();
+    };
+    both(p, q, lose_sole(&first, &second), lose_sole(&second, &first))
+}
+
+// What windows p and q become where they are the same; nothing where one is missing.
+fn same_at<W: Window>(p: usize, q: usize, rows: &[W::Row]) -> NewWindows<W>
+    requires { ⌜ Apart p q ⌝ }
+    ensures equation { λ r. ⌜ listed (W·Window .numbers) (r .items) (r .len) ≡ same-entries p q (map (W·Window .stands) (now (rows .entry))) ⌝ }
+    ensures outcome { λ r. ⌜ written (map (W·Window .stands) (now (rows .entry))) (listed (W·Window .numbers) (r .items) (r .len)) ≡ outcome (rule-of (same-rule p q)) (map (W·Window .stands) (now (rows .entry))) ⌝ }
+{
+    let Some(first) = window_at::<W>(rows, p) else {
+        return NewWindows::new();
+    };
+    let Some(second) = window_at::<W>(rows, q) else {
+        return NewWindows::new();
+    };
+    let shared = first.meet(&second);
+    both(p, q, shared, shared)
 }
 
 impl Pair {
@@ -68,44 +106,19 @@ impl Pair {
         self.p == j || self.q == j
     }
 
-    // New windows for both.
-    fn both<W: Window>(&self, first: Option<W>, second: Option<W>) -> NewWindows<W>
-        ensures { λ r. ⌜ listed (W·Window .numbers) (r .items) (r .len) ≡ record { at = now (self .entry) .p; new = numbers-of (W·Window .numbers) first } ∷ (record { at = now (self .entry) .q; new = numbers-of (W·Window .numbers) second } ∷ []) ⌝ }
-    {
-        let mut new = NewWindows::new();
-        new.push(self.p, first);
-        new.push(self.q, second);
-        new
-    }
-
-    // Differ: the new windows that each lost the sole number of the other; none where a window is missing. Written into the
-    // rows they give the rule's outcome.
+    // Differ: the new windows that each lost the sole number of the other. Written into the rows they give the rule's outcome.
     pub fn differ<W: Window>(&self, rows: &[W::Row]) -> NewWindows<W>
         ensures equation { λ r. ⌜ listed (W·Window .numbers) (r .items) (r .len) ≡ differ-entries (W·Window .kind) (now (self .entry) .p) (now (self .entry) .q) (map (W·Window .stands) (now (rows .entry))) ⌝ }
         ensures outcome { λ r. ⌜ written (map (W·Window .stands) (now (rows .entry))) (listed (W·Window .numbers) (r .items) (r .len)) ≡ outcome (rule-of (differ-rule (W·Window .kind) (now (self .entry) .p) (now (self .entry) .q))) (map (W·Window .stands) (now (rows .entry))) ⌝ }
     {
-        let Some(first) = window_at::<W>(rows, self.p) else {
-            return NewWindows::new();
-        };
-        let Some(second) = window_at::<W>(rows, self.q) else {
-            return NewWindows::new();
-        };
-        self.both(lose_sole(&first, &second), lose_sole(&second, &first))
+        differ_at::<W>(self.p, self.q, rows)
     }
 
-    // Same: what both windows share, for both; none where a window is missing. Written into the rows it gives the rule's
-    // outcome.
+    // Same: what both windows share, for both. Written into the rows it gives the rule's outcome.
     pub fn same<W: Window>(&self, rows: &[W::Row]) -> NewWindows<W>
         ensures equation { λ r. ⌜ listed (W·Window .numbers) (r .items) (r .len) ≡ same-entries (now (self .entry) .p) (now (self .entry) .q) (map (W·Window .stands) (now (rows .entry))) ⌝ }
         ensures outcome { λ r. ⌜ written (map (W·Window .stands) (now (rows .entry))) (listed (W·Window .numbers) (r .items) (r .len)) ≡ outcome (rule-of (same-rule (now (self .entry) .p) (now (self .entry) .q))) (map (W·Window .stands) (now (rows .entry))) ⌝ }
     {
-        let Some(first) = window_at::<W>(rows, self.p) else {
-            return NewWindows::new();
-        };
-        let Some(second) = window_at::<W>(rows, self.q) else {
-            return NewWindows::new();
-        };
-        let shared = first.meet(&second);
-        self.both(shared, shared)
+        same_at::<W>(self.p, self.q, rows)
     }
 }

@@ -278,8 +278,14 @@ pub tells-all : (T U : Table) (es : List Entry) (s : WindowSet) → all-filled T
 tells-all T U es s a d h e f = subst (λ o. Tells T o (Changed s) U) (sym (written-all T es a d h)) (e, f)
 
 -- ---- the check of all rows
-pub fills-all : {Row : Type 0} (stands : Row → List ℤ) (rows : List Row) (i : ℕ) → length rows ≤ i → true ≡ all-filled (map stands (drop i rows))
-fills-all stands rows i h = sym (at-drop-all (λ l. all-filled (map stands l)) rows i h)
+pub fills-all : {Row : Type 0} (stands : Row → List ℤ) (rows : List Row) (i : ℕ) (all total : Bool) → length rows ≤ i → (all && all-filled (map stands (drop i rows))) ≡ total → all ≡ total
+fills-all stands rows i all total h e = let d = at-drop-all (λ l. all-filled (map stands l)) rows i h in grind arith
+
+pub fills-lost : (all all′ here next rest total : Bool) → all′ ≡ false → rest ≡ (here && next) → here ≡ false → (all && rest) ≡ total → (all′ && next) ≡ total
+fills-lost all all′ here next rest total a r h e = grind arith
+
+pub fills-kept : (all all′ here next rest total : Bool) → all′ ≡ all → rest ≡ (here && next) → here ≡ true → (all && rest) ≡ total → (all′ && next) ≡ total
+fills-kept all all′ here next rest total a r h e = grind arith
 
 pub row-none : {W : Type 0} (P : Type 0) (Q : W → Type 0) (o : Option W) → isSome o ≡ false → Cases o P Q → P
 row-none P Q None e h = h

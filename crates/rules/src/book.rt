@@ -55,11 +55,20 @@ impl<R: BookRule> Book<R> {
         false
     }
 
+    // How many of the first k rules there are.
+    fn count_to(&self, k: usize) -> usize
+        ensures few { λ r. ⌜ r ≤ 64 ⌝ }
+        ensures whole { λ r. ⌜ (64 ≤ k → r ≡ length (slot-rules (R·BookRule .rule) (now (self .entry) .slots) (now (self .entry) .len))) ⌝ }
+        ensures rules { λ r. ⌜ slot-rules (R·BookRule .rule) (now (self .entry) .slots) r ≡ take k (slot-rules (R·BookRule .rule) (now (self .entry) .slots) (now (self .entry) .len)) ⌝ }
+    {
+        if k < self.len { k } else { self.len }
+    }
+
     // How many rules the book holds.
     pub fn count(&self) -> usize
         ensures { λ r. ⌜ r ≡ length (slot-rules (R·BookRule .rule) (now (self .entry) .slots) (now (self .entry) .len)) ⌝ }
     {
-        self.len
+        self.count_to(FULL)
     }
 
     // One more than the highest window that a rule reads, 0 if none reads any.
@@ -118,8 +127,6 @@ impl<R: BookRule> Book<R> {
     pub fn shorten(&mut self, k: usize)
         ensures { λ _. ⌜ slot-rules (R·BookRule .rule) (now (self .exit) .slots) (now (self .exit) .len) ≡ take k (slot-rules (R·BookRule .rule) (now (self .entry) .slots) (now (self .entry) .len)) ⌝ }
     {
-        if k < self.len {
-            self.len = k;
-        }
+        self.len = self.count_to(k);
     }
 }

@@ -38,12 +38,13 @@ pub struct NewWindows<W> {
 pub fn all_windows<W: Window>(rows: &[W::Row]) -> bool
     ensures { λ r. ⌜ r ≡ all-filled (map (W·Window .stands) (now (rows .entry))) ⌝ }
 {
+    let mut all = true;
     for row in rows {
         if W::from_row(*row).is_none() {
-            return false;
+            all = false;
         }
     }
-    true
+    all
 }
 
 // Puts a window in the place of row `at`, unless it stands there already or there is no such row; says whether it did.
@@ -80,8 +81,8 @@ impl<W: Window> NewWindows<W> {
     fn has(&self, j: usize) -> bool
         ensures { λ r. ⌜ r ≡ has-entry (listed (W·Window .numbers) (now (self .entry) .items) (now (self .entry) .len)) j ⌝ }
     {
-        for i in 0..self.len {
-            if self.items[i].at == j {
+        for k in 0..self.len {
+            if self.items[k].at == j {
                 return true;
             }
         }

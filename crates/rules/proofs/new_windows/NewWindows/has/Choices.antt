@@ -6,5 +6,5 @@ use Rattle.rules.specs.Writing.{entry, listed}
 use Rattle.rules.proofs.new_windows.NewWindows.has.Given as given
 
 -- what is left decides
-abbrev pub Inv-loop-i : given.InvT-loop-i
-Inv-loop-i g l = has-entry (drop (l .i) (listed (g .W·Window .numbers) (l .self .items) (l .self .len))) (l .j) ≡ has-entry (listed (g .W·Window .numbers) (l .self .items) (l .self .len)) (l .j)
+abbrev pub Inv-loop-k : given.InvT-loop-k
+Inv-loop-k g l = has-entry (drop (l .k) (listed (g .W·Window .numbers) (l .self .items) (l .self .len))) (l .j) ≡ has-entry (listed (g .W·Window .numbers) (l .self .items) (l .self .len)) (l .j)
