@@ -21,8 +21,8 @@ day-lawful (day.Same x) = same-lawful spans spans-proper (x .p) (x .q)
 
 pub day-near : (r : DayRule) (j : ℕ) → day-rule r .reads j ≡ true → j < 64
 day-near (day.Sum s) j h = meaning-near s j h
-day-near (day.Differ x) j h = pair-near (x .p) (x .q) j (x .close .0) (x .close .1) h
-day-near (day.Same x) j h = pair-near (x .p) (x .q) j (x .close .0) (x .close .1) h
+day-near (day.Differ x) j h = pair-near (x .p) (x .q) j (x .apart) h
+day-near (day.Same x) j h = pair-near (x .p) (x .q) j (x .apart) h
 
 pub day-within : (p : DayPost) (n j : ℕ) → day-asks p n ≡ None → day-meaning p .reads j ≡ true → j < n
 day-within (post.SumEquals s) n j e h = asks-within s true n j e h

@@ -1,3 +1,4 @@
 pub mod TermLaws
 pub mod WindowLaws
 pub mod ReadingLaws
+pub mod SettledLaws

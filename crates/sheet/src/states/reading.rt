@@ -4,11 +4,12 @@ ghost use mathlib.Core.Bool.{Bool, true, false};
 ghost use Prim.Native.Nat.{_<_, _≤_};
 ghost use lib.ListN.{length};
 ghost use Rattle.std.specs.Vec.{refused};
-ghost use Rattle.sheet.specs.Reading.{held, roomy, opened, view, crowded, added, took, outcome, reading, readings, quiet, finished};
+ghost use Rattle.sheet.specs.Reading.{held, opened, view, added, took, outcome, reading, readings, quiet, finished};
 ghost use Rattle.sheet.specs.declared.item.Item.the-variants as item;
 use super::Open;
 use super::Read;
 use super::Taken;
+use super::is_roomy;
 use crate::fault::Cause;
 use crate::fault::Fault;
 use crate::item::Item;
@@ -29,13 +30,6 @@ use windows::Window;
 
 // A record has four bytes at least, so this many readings reach the end of any sheet.
 const MOST_READINGS: usize = 15_361;
-
-// Is there a place for 64 windows, and for 16 times as many in the store?
-fn is_roomy(lent: &Lent) -> bool
-    ensures { λ r. ⌜ r ≡ roomy (held (now (lent .entry))) ⌝ }
-{
-    lent.rows.len() >= 64 && lent.store.len() >= 1024
-}
 
 impl Open {
     // Opens a sheet, and empties its book.
