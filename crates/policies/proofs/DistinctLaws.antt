@@ -11,7 +11,7 @@ use Rattle.std.proofs.shelf.Tests.{eqb-true, eqb-false, eq-eqb, ne-eqb, lt-ltb,
 use Rattle.std.proofs.shelf.Lists.{take-more, length-take-le}
 use Rattle.policies.specs.Waiting.{holds, distinct, put, remove, Chooses, first, lowest, Taken, taking}
 use Rattle.std.specs.declared.option.Option.the-variants.{Some}
-use Rattle.policies.proofs.WaitingLaws.{holds-end, remove-long, remove-other}
+use Rattle.policies.proofs.WaitingLaws.{holds-end, remove-long}
 
 -- the parts of a distinct list
 pub parts : (x : ℕ) (w : List ℕ) → distinct (x ∷ w) ≡ true → (x < 64) × (holds x w ≡ false) × (distinct w ≡ true)

@@ -1,11 +1,11 @@
 -- Closing a gap in a list, place by place.
-use mathlib.Core.Path.{_≡_, refl, sym, ap, subst, _∙_}
+use mathlib.Core.Path.{_≡_, refl, sym, ap, _∙_}
 use mathlib.Core.List.{List, [], _∷_, _++_}
 use Prim.Native.Nat.{ℕ, zero, suc, _+_, _-_, _≤_, _<_}
 use native.Mathlib.Numerals.{add-one}
 use native.Mathlib.Omega.{arith}
 use lib.ListN.{length, getD, set, take, drop}
-use Rattle.std.proofs.shelf.Lists.{append-assoc, length-append, length-take-le, length-drop, take-append-drop, take-append-le, take-more, take-take, take-at, drop-more, set-at, getD-drop, getD-append-right, getD-take}
+use Rattle.std.proofs.shelf.Lists.{append-assoc, length-append, length-take-le, length-drop, take-append-drop, take-more, take-at, drop-more, set-at, getD-drop, getD-append-right, getD-take}
 use mathlib.Core.Bool.{true}
 use Rattle.policies.specs.Waiting.{distinct, remove}
 use Rattle.policies.proofs.DistinctLaws.{remove-at}

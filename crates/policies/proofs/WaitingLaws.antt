@@ -1,14 +1,14 @@
 -- Waiting lists: what put, puts and remove leave in them.
-use mathlib.Core.Path.{_≡_, refl, sym, ap, subst, _∙_}
-use mathlib.Core.Logic.{_⊎_, inl, inr, ⊎-elim}
+use mathlib.Core.Path.{_≡_, refl, sym, ap, _∙_}
+use mathlib.Core.Logic.{⊎-elim}
 use mathlib.Core.List.{List, [], _∷_, _++_}
-use mathlib.Core.Bool.{Bool, true, false, cond, _&&_, _||_}
-use Prim.Native.Nat.{ℕ, zero, suc, suc-le-suc, _+_, _*_, _≤_, _<_}
+use mathlib.Core.Bool.{Bool, true, false, cond, _||_}
+use Prim.Native.Nat.{ℕ, zero, suc, _+_, _≤_, _<_}
 use native.Mathlib.Numerals.{add-one}
 use native.Mathlib.Omega.{arith}
 use lib.ListN.{length, length-append}
 use lib.Dec.{eqb, ltb}
-use Rattle.std.proofs.shelf.Tests.{eqb-true, eq-eqb, eqb-false, ne-eqb, lt-ltb, or-left, or-right, or-cases, or-parts, cases-bool, both-ways, cases-eq, cond-both, cond-true, cond-false}
+use Rattle.std.proofs.shelf.Tests.{eqb-true, eq-eqb, lt-ltb, or-left, or-right, or-cases, cases-bool, both-ways, cases-eq, cond-both, cond-true, cond-false}
 use Rattle.policies.specs.Waiting.{holds, put, remove, puts}
 
 pub holds-end : (i k : ℕ) (w : List ℕ) → holds i (w ++ (k ∷ [])) ≡ (holds i w || eqb i k)

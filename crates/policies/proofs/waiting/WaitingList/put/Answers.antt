@@ -1,12 +1,9 @@
 use mathlib.Core.Path.{_≡_, sym, ap, _∙_}
-use mathlib.Core.Bool.{true}
-use mathlib.Core.List.{List}
-use Prim.Native.Nat.{ℕ, _+_, _<_, _≤_}
 use native.Mathlib.Omega.{arith}
 use borrow.Author.Needs.{needs}
-use lib.ListN.{length, take, set}
+use lib.ListN.{length, take}
 use Rattle.std.proofs.shelf.Lists.{take-more-set, length-take-le}
-use Rattle.policies.specs.Waiting.{distinct, put}
+use Rattle.policies.specs.Waiting.{distinct}
 use Rattle.policies.proofs.DistinctLaws.{put-absent, distinct-put, room-for-one}
 use Rattle.policies.proofs.waiting.WaitingList.put.Needs as need
 

@@ -1,11 +1,10 @@
 use mathlib.Core.Path.{_≡_, sym, ap, _∙_}
-use mathlib.Core.List.{List}
-use Prim.Native.Nat.{ℕ, _+_, _-_, _<_, _≤_}
+use Prim.Native.Nat.{_-_, _<_}
 use native.Mathlib.Omega.{arith}
 use borrow.Author.Needs.{needs}
 use lib.ListN.{length, getD, take}
 use Rattle.std.proofs.shelf.Lists.{getD-take, length-take-le}
-use Rattle.policies.specs.Waiting.{distinct, remove}
+use Rattle.policies.specs.Waiting.{distinct}
 use Rattle.policies.proofs.DistinctLaws.{distinct-remove}
 use Rattle.policies.proofs.GapLaws.{taken-out}
 use Rattle.policies.proofs.waiting.WaitingList.remove.Needs as need
