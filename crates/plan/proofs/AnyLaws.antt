@@ -29,4 +29,3 @@ any-more f n h e = rw (add-one, h) e
 pub any-like : (f g : ℕ → Bool) (n : ℕ) → ((k : ℕ) → k < n → f k ≡ g k) → any f n ≡ any g n
 any-like f g zero h = refl
 any-like f g (suc n) h = let e : f n ≡ g n = h n (omega arith) in let p : any f n ≡ any g n = any-like f g n (λ k l. h k (omega arith)) in cc
-

@@ -80,10 +80,7 @@ pub is-table-none : {Row : Type 0} (stands : Row → List ℤ) (rows : List Row)
 is-table-none stands rows (inl l) = sym (and-left (leb 1 (length (map stands rows))) (leb (length (map stands rows)) 64 && all-filled (map stands rows)) (lt-leb 1 (length (map stands rows)) (simp length-map l)))
 is-table-none stands rows (inr l) = sym (and-right (leb 1 (length (map stands rows))) (leb (length (map stands rows)) 64 && all-filled (map stands rows)) (and-left (leb (length (map stands rows)) 64) (all-filled (map stands rows)) (lt-leb (length (map stands rows)) 64 (simp length-map l))))
 
--- the three questions, in their order
-pub refused-windows : (T : Table) (long : ℕ) (wanted : Bool) → is-table T ≡ false → Some Windows ≡ board-refusal T long wanted
-refused-windows T long wanted e = sym (cond-false (is-table T) (cond (leb (16 * length T) long) (cond wanted None (Some Length)) (Some Store)) (Some Windows) e)
-
+-- the second and the third question
 pub refused-store : (T : Table) (long : ℕ) (wanted : Bool) → is-table T ≡ true → long < 16 * length T → Some Store ≡ board-refusal T long wanted
 refused-store T long wanted e l = sym (cond-true (is-table T) (cond (leb (16 * length T) long) (cond wanted None (Some Length)) (Some Store)) (Some Windows) e ∙ cond-false (leb (16 * length T) long) (cond wanted None (Some Length)) (Some Store) (lt-leb (16 * length T) long l))
 

@@ -44,9 +44,6 @@ pub none-asked : (board next : Option PlanRefusal) → or-else board next ≡ No
 none-asked (Some f) next e = absurd (let z : _≡_ {A = ℕ} 0 1 = cc in omega arith)
 none-asked None next e = (refl, e)
 
-pub not-none : {X : Type 0} (o : Option PlanRefusal) (f : PlanRefusal) → o ≡ Some f → o ≡ None → X
-not-none o f e q = absurd (let z : _≡_ {A = ℕ} 0 1 = cc in omega arith)
-
 -- ---- calls
 pub call-refused : {A : Type 0} (o : Option PlanRefusal) (f : PlanRefusal) (s : State) (c : Call A) → o ≡ Some f → unless o s c ≡ record { answer = Err f; after = s }
 call-refused o f s c e = ap (λ x. unless x s c) e

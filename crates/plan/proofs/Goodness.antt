@@ -42,18 +42,19 @@ pub record Good (sets : List ℤ → Type 0) (a : Ask) (s : State) : Type 0 wher
 -- one standing rule has narrowed the windows
 pub sound-narrowed : (sets : List ℤ → Type 0) (asked : Table) (rules : List Rule) (T U : Table) (i : ℕ) → Lawful sets (getD rules i missing) → Sound sets asked rules false T → getD rules i missing .narrow T ≡ narrowed U → Sound sets asked rules false U
 sound-narrowed sets asked rules T U i law sound e =
-    record
-      { kinds = law .shrinks T U (sound .kinds) e .0
-      ; long = law .shrinks T U (sound .kinds) e .1 .long ∙ sound .long
-      ; inside = λ _. inside-trans (law .shrinks T U (sound .kinds) e .1) (sound .inside refl)
-      ; above = λ V h. (refl, above V h)
-      ; fits = λ p h. (refl, fits p h)
-      }
+    record {
+      kinds = law .shrinks T U (sound .kinds) e .0;
+      long = law .shrinks T U (sound .kinds) e .1 .long ∙ sound .long;
+      inside = λ _. inside-trans (law .shrinks T U (sound .kinds) e .1) (sound .inside refl);
+      above = λ V h. (refl, above V h);
+      fits = λ p h. (refl, fits p h);
+    }
   where
     above : (V : Table) → Steady sets asked rules V → Inside V U
     above V h =
         let (W, f, g) = law .monotone V T V (h .kinds) (sound .kinds) (sound .above V h .1) (calm-all rules V (h .calm) i) in
         subst (λ (X : Table). Inside V X) (narrowed-once (sym f ∙ e)) g
+
     fits : (p : Placing) → Fits asked rules p → Places p U
     fits p h =
         let (W, f, g) = law .keeps T p (sound .kinds) (sound .fits p h .1) (allowed-all rules p (h .allowed) i) in
@@ -62,10 +63,10 @@ sound-narrowed sets asked rules T U i law sound e =
 -- one standing rule has emptied a window
 pub sound-emptied : (sets : List ℤ → Type 0) (asked : Table) (rules : List Rule) (T : Table) (i j : ℕ) → Lawful sets (getD rules i missing) → Sound sets asked rules false T → getD rules i missing .narrow T ≡ emptied j → Sound sets asked rules true T
 sound-emptied sets asked rules T i j law sound e =
-    record
-      { kinds = sound .kinds
-      ; long = sound .long
-      ; inside = λ h. absurd (both-ways true h refl)
-      ; above = λ V h. absurd (let (W, f, g) = law .monotone V T V (h .kinds) (sound .kinds) (sound .above V h .1) (calm-all rules V (h .calm) i) in not-both f e)
-      ; fits = λ p h. absurd (let (W, f, g) = law .keeps T p (sound .kinds) (sound .fits p h .1) (allowed-all rules p (h .allowed) i) in not-both f e)
-      }
+    record {
+      kinds = sound .kinds;
+      long = sound .long;
+      inside = λ h. absurd (both-ways true h refl);
+      above = λ V h. absurd (let (W, f, g) = law .monotone V T V (h .kinds) (sound .kinds) (sound .above V h .1) (calm-all rules V (h .calm) i) in not-both f e);
+      fits = λ p h. absurd (let (W, f, g) = law .keeps T p (sound .kinds) (sound .fits p h .1) (allowed-all rules p (h .allowed) i) in not-both f e);
+    }

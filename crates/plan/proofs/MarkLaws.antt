@@ -84,6 +84,7 @@ stored-before {Row} store rows from b n l m = front (rows ++ drop (from + length
   where
     long : length (take from store) ≡ from
     long = length-take-le from store m
+
     front : (t : List Row) → take n (drop b (take from store ++ t)) ≡ take n (drop b (take from store))
     front t = ap (take n) (drop-append-le b (take from store) t (omega (arith, long))) ∙ take-append-le n (drop b (take from store)) t (simp length-drop (omega (arith, long)))
 
@@ -96,15 +97,19 @@ pushed-copies {Row} stands old new store rows d slot p m = ap (copies stands new
   where
     n : ℕ
     n = length rows
+
     after : List Row
     after = stored store (d * n) rows
+
     top : copies stands new n after (suc d) ≡ record { number = slot .number; count = slot .count; impossible = slot .impossible; table = map stands rows } ∷ copies stands new n after d
     top = ap (λ (x : Slot). record { number = x .number; count = x .count; impossible = x .impossible; table = map stands (take n (drop (d * n) after)) } ∷ copies stands new n after d) (p .top) ∙ ap (λ (t : List Row). record { number = slot .number; count = slot .count; impossible = slot .impossible; table = map stands t } ∷ copies stands new n after d) (stored-here store rows (d * n) m)
+
     each : (k : ℕ) → k < d → copy-at stands new n after k ≡ copy-at stands old n store k
     each k l =
         let room : suc k * n ≤ d * n = mul-le-mul-right n l in
         let room′ : k * n + n ≤ d * n = rw (← suc-mul k n) room in
         ap {B = Copy} (λ (x : Slot). record { number = x .number; count = x .count; impossible = x .impossible; table = map stands (take n (drop (k * n) after)) }) (p .below k l) ∙ ap {B = Copy} (λ (t : List Row). record { number = getD old k no-slot .number; count = getD old k no-slot .count; impossible = getD old k no-slot .impossible; table = map stands t }) (stored-before store rows (d * n) (k * n) n room′ m)
+
     below : (k : ℕ) → k ≤ d → copies stands new n after k ≡ copies stands old n store k
     below zero l = refl
     below (suc k) l = ap (λ (x : Copy). x ∷ copies stands new n after k) (each k l) ∙ ap (λ (cs : List Copy). copy-at stands old n store k ∷ cs) (below k (omega arith))

@@ -19,9 +19,9 @@ pub record Proper-sets (sets : List ℤ → Type 0) : Type 0 where
 -- so it is with the windows of every kind
 pub proper-sets : (k : Kind) → Proper k → (sets : List ℤ → Type 0) → ((s : List ℤ) → (sets s → Of k s) × (Of k s → sets s)) → Proper-sets sets
 proper-sets k p sets tied =
-    record
-      { some = λ h. let l = tied [] .0 h .some in omega arith
-      ; rising = λ s h. tied s .0 h .rising
-      ; few = λ s h. few k p s (tied s .0 h)
-      ; meets = λ s t h l n. tied (meet s t) .1 (meet-of k p s t (tied s .0 h) (tied t .0 l) (some-of (meet s t) n))
-      }
+    record {
+      some = λ h. let l = tied [] .0 h .some in omega arith;
+      rising = λ s h. tied s .0 h .rising;
+      few = λ s h. few k p s (tied s .0 h);
+      meets = λ s t h l n. tied (meet s t) .1 (meet-of k p s t (tied s .0 h) (tied t .0 l) (some-of (meet s t) n));
+    }

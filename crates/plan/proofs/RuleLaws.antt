@@ -25,13 +25,13 @@ not-both p q = let z : _≡_ {A = ℕ} 0 1 = cc in omega arith
 
 pub missing-lawful : (sets : List ℤ → Type 0) → Lawful sets missing
 missing-lawful sets =
-    record
-      { shrinks = λ T U k e. subst (λ (V : Table). Every sets V × Inside V T) (narrowed-once e) (k, inside-refl T)
-      ; unread = λ T U j k e r. ap (λ (V : Table). window V j) (sym (narrowed-once e))
-      ; local = λ T U k l m h j r. h j r
-      ; monotone = λ T U T′ k l i e. (U, refl, subst (λ (V : Table). Inside V U) (narrowed-once e) i)
-      ; keeps = λ T p k h e. (T, refl, h)
-      }
+    record {
+      shrinks = λ T U k e. subst (λ (V : Table). Every sets V × Inside V T) (narrowed-once e) (k, inside-refl T);
+      unread = λ T U j k e r. ap (λ (V : Table). window V j) (sym (narrowed-once e));
+      local = λ T U k l m h j r. h j r;
+      monotone = λ T U T′ k l i e. (U, refl, subst (λ (V : Table). Inside V U) (narrowed-once e) i);
+      keeps = λ T p k h e. (T, refl, h);
+    }
 
 pub lawful-all : (sets : List ℤ → Type 0) (rules : List Rule) → ((i : ℕ) → i < length rules → Lawful sets (getD rules i missing)) → (i : ℕ) → Lawful sets (getD rules i missing)
 lawful-all sets rules h i =
@@ -52,6 +52,7 @@ agree r T U l e j h = ⊎-elim within beyond (cases-lt j (length T))
     within : j < length T → window T j ≡ window U j
     within b =
         ⊎-elim (λ q. same-set-is (window T j) (window U j) (not-false (same-set (window T j) (window U j)) q)) (λ q. absurd (both-ways (r .reads j) q h)) (and-cases (differs T U j) (r .reads j) (any-none (λ k. differs T U k && r .reads k) (length T) j e b))
+
     beyond : length T ≤ j → window T j ≡ window U j
     beyond b = getD-past T j [] b ∙ sym (getD-past U j [] (omega arith))
 
@@ -61,11 +62,13 @@ calm-still sets r T U law kt ku l same calm = go (r .narrow U) refl
   where
     alike : Alike (r .reads) (narrowed T) (r .narrow U)
     alike = subst (λ (o : Outcome). Alike (r .reads) o (r .narrow U)) calm (law .local T U kt ku l same)
+
     go : (o : Outcome) → r .narrow U ≡ o → o ≡ narrowed U
     go (narrowed V) e = ap narrowed (same-table V U (law .shrinks U V ku e .1 .long) each)
       where
         like : (j : ℕ) → r .reads j ≡ true → window T j ≡ window V j
         like = subst (λ (o : Outcome). Alike (r .reads) (narrowed T) o) e alike
+
         each : (j : ℕ) → window V j ≡ window U j
         each j = ⊎-elim (λ h. sym (like j h) ∙ same j h) (λ h. law .unread U V j ku e h) (cases-bool (r .reads j))
     go (emptied k) e = absurd (subst (λ (o : Outcome). Alike (r .reads) (narrowed T) o) e alike)
@@ -76,5 +79,6 @@ calm-self sets r T U law kt e h = subst (λ (V : Table). r .narrow V ≡ narrowe
   where
     long : length T ≡ length U
     long = sym (law .shrinks T U kt e .1 .long)
+
     same : T ≡ U
     same = same-table T U long (λ j. ⊎-elim (agree r T U long h j) (λ q. sym (law .unread T U j kt e q)) (cases-bool (r .reads j)))

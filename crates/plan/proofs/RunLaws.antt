@@ -86,11 +86,11 @@ module _ (sets : List ℤ → Type 0) (choice : List ℕ → ℕ) (proper : Prop
       let long : length v ≡ length (woken rules T U (left choice w)) = ap length x in
       let spent = r .spent in
       let waits = some-waits choice w i e in
-      record
-        { kinds = s .0 .kinds
-        ; spent = omega arith
-        ; rest = λ z cs h. r .rest z cs h ∙ ap (λ (k : ℕ). run choice k n (state rules w false T z cs h)) {y = suc (length rules * sizes T₀ + length w₀ - (n + 1))} (omega arith) ∙ ap (onward n (state rules w false T z cs h) (run choice (length rules * sizes T₀ + length w₀ - (n + 1)) (suc n))) (step-went choice rules w T U i z cs h e q) ∙ ap (λ (m : ℕ). run choice (length rules * sizes T₀ + length w₀ - (n + 1)) m (state rules (woken rules T U (left choice w)) false U z cs h)) (sym (add-one n)) ∙ ap (λ (u : List ℕ). run choice (length rules * sizes T₀ + length w₀ - (n + 1)) (n + 1) (state rules u false U z cs h)) (sym x)
-        }
+      record {
+        kinds = s .0 .kinds;
+        spent = omega arith;
+        rest = λ z cs h. r .rest z cs h ∙ ap (λ (k : ℕ). run choice k n (state rules w false T z cs h)) {y = suc (length rules * sizes T₀ + length w₀ - (n + 1))} (omega arith) ∙ ap (onward n (state rules w false T z cs h) (run choice (length rules * sizes T₀ + length w₀ - (n + 1)) (suc n))) (step-went choice rules w T U i z cs h e q) ∙ ap (λ (m : ℕ). run choice (length rules * sizes T₀ + length w₀ - (n + 1)) m (state rules (woken rules T U (left choice w)) false U z cs h)) (sym (add-one n)) ∙ ap (λ (u : List ℕ). run choice (length rules * sizes T₀ + length w₀ - (n + 1)) (n + 1) (state rules u false U z cs h)) (sym x);
+      }
 
   pub falls : (w : List ℕ) (T U : Table) (i : ℕ) (v : List ℕ) → Every sets T → taken choice w ≡ Some i → getD rules i missing .narrow T ≡ narrowed U → v ≡ woken rules T U (left choice w) → length rules * sizes U + length v < length rules * sizes T + length w
   falls w T U i v k e q x =
@@ -157,8 +157,10 @@ pub record Turned (sets : List ℤ → Type 0) (choice : List ℕ → ℕ) (rule
 module _ (sets : List ℤ → Type 0) (choice : List ℕ → ℕ) (proper : Proper-sets sets) (chooses : Chooses choice) (rules : List Rule) (few : length rules ≤ 64) (lawful : (i : ℕ) → i < length rules → Lawful sets (getD rules i missing)) (w₀ : List ℕ) (T₀ : Table) (n : ℕ) (w : List ℕ) (T : Table) (r : Running sets choice rules w₀ T₀ n w T) (i : ℕ) (u : List ℕ) (e : taking choice w ≡ record { answer = Some i; after = u }) (U : Table) where
   is-taken : taken choice w ≡ Some i
   is-taken = ap (λ (t : Taken). t .answer) e
+
   is-left : u ≡ left choice w
   is-left = sym (ap (λ (t : Taken). t .after) e)
+
   is-outcome : outcome (getD rules i missing) T ≡ getD rules i missing .narrow T
   is-outcome = outcome-is sets (getD rules i missing) T proper (r .kinds)
 

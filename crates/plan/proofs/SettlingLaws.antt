@@ -44,43 +44,49 @@ paid rules T U w v l (inr e) =
 
 went-good : (sets : List ℤ → Type 0) (a : Ask) (s : State) (i : ℕ) (U : Table) (w : List ℕ) → Good sets a s → s .impossible ≡ false → s .waiting ≡ w → getD (s .rules) i missing .narrow (s .table) ≡ narrowed U → Good sets a (at s U (woken (s .rules) (s .table) U (remove i w)))
 went-good sets a s i U w good possible e q =
-    record
-      { same = good .same
-      ; few = good .few
-      ; lawful = good .lawful
-      ; sound = subst (λ (b : Bool). Sound sets (a .asked) (s .rules) b U) (sym possible) sound
-      ; calm = λ _ k b h. calm k b (puts-absent (λ k. touched (s .table) U (getD (s .rules) k missing)) (length (s .rules)) k (remove i w) (good .few) b h)
-      ; marks = good .marks
-      }
+    record {
+      same = good .same;
+      few = good .few;
+      lawful = good .lawful;
+      sound = subst (λ (b : Bool). Sound sets (a .asked) (s .rules) b U) (sym possible) sound;
+      calm = λ _ k b h. calm k b (puts-absent (λ k. touched (s .table) U (getD (s .rules) k missing)) (length (s .rules)) k (remove i w) (good .few) b h);
+      marks = good .marks;
+    }
   where
     T : Table
     T = s .table
+
     before : Sound sets (a .asked) (s .rules) false T
     before = subst (λ (b : Bool). Sound sets (a .asked) (s .rules) b T) possible (good .sound)
+
     sound : Sound sets (a .asked) (s .rules) false U
     sound = sound-narrowed sets (a .asked) (s .rules) T U i (good .lawful i) before q
+
     long : length T ≡ length U
     long = sym (good .lawful i .shrinks T U (good .sound .kinds) q .1 .long)
+
     absent : (k : ℕ) → (k ≡ i → ⊥) → holds k (remove i w) ≡ false → holds k (s .waiting) ≡ false
     absent k n h = ⊎-elim (λ y. absurd (both-ways (holds k (remove i w)) h (remove-other k i w n (rw e at y)))) (λ n. n) (cases-bool (holds k (s .waiting)))
+
     calm : (k : ℕ) → k < length (s .rules) → (touched T U (getD (s .rules) k missing) ≡ false) × (holds k (remove i w) ≡ false) → getD (s .rules) k missing .narrow U ≡ narrowed U
     calm k b h = ⊎-elim self other (cases-eq k i)
       where
         self : k ≡ i → getD (s .rules) k missing .narrow U ≡ narrowed U
         self e = calm-self sets (getD (s .rules) k missing) T U (good .lawful k) (good .sound .kinds) (rw e q) (h .0)
+
         other : (k ≡ i → ⊥) → getD (s .rules) k missing .narrow U ≡ narrowed U
         other n = calm-still sets (getD (s .rules) k missing) T U (good .lawful k) (good .sound .kinds) (sound .kinds) long (agree (getD (s .rules) k missing) T U long (h .0)) (good .calm possible k b (absent k n (h .1)))
 
 stuck-good : (sets : List ℤ → Type 0) (a : Ask) (s : State) (i j : ℕ) (w : List ℕ) → Good sets a s → s .impossible ≡ false → getD (s .rules) i missing .narrow (s .table) ≡ emptied j → Good sets a (failed s w)
 stuck-good sets a s i j w good possible q =
-    record
-      { same = good .same
-      ; few = good .few
-      ; lawful = good .lawful
-      ; sound = sound-emptied sets (a .asked) (s .rules) (s .table) i j (good .lawful i) (subst (λ (b : Bool). Sound sets (a .asked) (s .rules) b (s .table)) possible (good .sound)) q
-      ; calm = λ h. absurd (both-ways true h refl)
-      ; marks = good .marks
-      }
+    record {
+      same = good .same;
+      few = good .few;
+      lawful = good .lawful;
+      sound = sound-emptied sets (a .asked) (s .rules) (s .table) i j (good .lawful i) (subst (λ (b : Bool). Sound sets (a .asked) (s .rules) b (s .table)) possible (good .sound)) q;
+      calm = λ h. absurd (both-ways true h refl);
+      marks = good .marks;
+    }
 
 -- What settling needs to end: windows of the sets, and lawful rules.
 pub record Ready (sets : List ℤ → Type 0) (s : State) : Type 0 where
@@ -106,17 +112,22 @@ step-spent sets choice proper chooses s r = from (s .waiting) refl
       where
         w : List ℕ
         w = x ∷ v
+
         i : ℕ
         i = choice w
+
         long : length (s .waiting) ≡ length w
         long = ap length e
+
         taken : suc (length (remove i w)) ≡ length w
         taken = remove-long i w (chooses x v)
+
         narrows : (o : Outcome) → getD (s .rules) i missing .narrow (s .table) ≡ o → Spent sets s (narrowing s i (remove i w) o)
         narrows (narrowed U) q = (record { few = r .few; lawful = r .lawful; kinds = shrinks .0 }, refl, omega (arith, long, paid (s .rules) (s .table) U w (remove i w) taken less), ⊎-elim (λ h. omega arith) (λ (h : U ≡ s .table). omega (arith, ap sizes h)) less)
           where
             shrinks : Every sets U × Inside U (s .table)
             shrinks = r .lawful i .shrinks (s .table) U (r .kinds) q
+
             less : (sizes U < sizes (s .table)) ⊎ (U ≡ s .table)
             less = shrunk (s .table) U (every-rising (s .table) proper (r .kinds)) (every-rising U proper (shrinks .0)) (shrinks .1)
         narrows (emptied j) q = (refl, omega (arith, long, taken), refl)
@@ -136,8 +147,10 @@ step-after sets choice a s good possible = from (s .waiting) refl
       where
         w : List ℕ
         w = x ∷ v
+
         i : ℕ
         i = choice w
+
         narrows : (o : Outcome) → getD (s .rules) i missing .narrow (s .table) ≡ o → After sets a s (narrowing s i (remove i w) o)
         narrows (narrowed U) q = (went-good sets a s i U w good possible e q, possible)
         narrows (emptied j) q = (stuck-good sets a s i j (remove i w) good possible q, refl)
@@ -146,15 +159,15 @@ step-after sets choice a s good possible = from (s .waiting) refl
 pub widest : (sets : List ℤ → Type 0) (a : Ask) (s : State) → Good sets a s → s .impossible ≡ false → s .waiting ≡ [] → Widest sets a (s .table)
 widest sets a s good possible e =
     subst (λ (rules : List Rule). Widest sets (record { asked = a .asked; standing = rules; held = a .held }) (s .table)) (good .same)
-    (record
-      { steady =
-        record
-          { kinds = good .sound .kinds
-          ; inside = good .sound .inside possible
-          ; calm = λ i b. good .calm possible i b (ap (holds i) e)
-          }
-      ; widest = λ V h. good .sound .above V h .1
-      })
+    (record {
+      steady =
+          record {
+            kinds = good .sound .kinds;
+            inside = good .sound .inside possible;
+            calm = λ i b. good .calm possible i b (ap (holds i) e);
+          };
+      widest = λ V h. good .sound .above V h .1;
+    })
 
 pub no-table : (sets : List ℤ → Type 0) (a : Ask) (s : State) → Good sets a s → s .impossible ≡ true → No-table sets a
 no-table sets a s good h V v =

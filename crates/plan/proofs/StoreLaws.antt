@@ -21,18 +21,25 @@ stored-more {Row} store rows at i d l m = first ∙ written ∙ sym last
   where
     xs : List Row
     xs = take i rows
+
     row : Row
     row = getD rows i d
+
     long : length xs ≡ i
     long = length-take-le i rows (omega arith)
+
     front : length (take at store ++ xs) ≡ at + i
     front = length-append (take at store) xs ∙ ap (λ (n : ℕ). n + length xs) (length-take-le at store (omega arith)) ∙ ap (λ (n : ℕ). at + n) long
+
     first : set (stored store at xs) (at + i) row ≡ set ((take at store ++ xs) ++ (getD store (at + i) row ∷ drop (at + i + 1) store)) (at + i) row
     first = ap (λ (t : List Row). set t (at + i) row) (ap (λ (n : ℕ). take at store ++ (xs ++ drop (at + n) store)) long ∙ ap (λ (t : List Row). take at store ++ (xs ++ t)) (drop-more store (at + i) row (omega arith)) ∙ sym (append-assoc (take at store) xs (getD store (at + i) row ∷ drop (at + i + 1) store)))
+
     written : set ((take at store ++ xs) ++ (getD store (at + i) row ∷ drop (at + i + 1) store)) (at + i) row ≡ (take at store ++ xs) ++ (row ∷ drop (at + i + 1) store)
     written = set-at (take at store ++ xs) (getD store (at + i) row) (drop (at + i + 1) store) row (at + i) front
+
     more : take (i + 1) rows ≡ xs ++ (row ∷ [])
     more = take-more rows i d l
+
     last : stored store at (take (i + 1) rows) ≡ (take at store ++ xs) ++ (row ∷ drop (at + i + 1) store)
     last = ap (stored store at) more ∙ ap (λ (n : ℕ). take at store ++ ((xs ++ (row ∷ [])) ++ drop n store)) (ap (λ (n : ℕ). at + n) (length-push xs row ∙ ap (λ (n : ℕ). n + 1) long) ∙ sym (add-assoc at i 1)) ∙ ap (λ (t : List Row). take at store ++ t) (append-assoc xs (row ∷ []) (drop (at + i + 1) store)) ∙ sym (append-assoc (take at store) xs (row ∷ drop (at + i + 1) store))
 

@@ -50,8 +50,10 @@ every-set sets T j s h k i l = ⊎-elim same other (cases-eq i j)
   where
     l′ : i < length T
     l′ = simp length-set at l
+
     same : i ≡ j → sets (window (set T j s) i)
     same e = subst (λ (n : ℕ). n < length T → sets (window (set T j s) n)) (sym e) (λ b. rw getD-set-same k) l′
+
     other : (i ≡ j → ⊥) → sets (window (set T j s) i)
     other n = rw getD-set-other (h i l′)
 
@@ -66,18 +68,18 @@ met A j g = set A j (meet (window A j) g)
 
 pub met-inside : (A : Table) (j : ℕ) (g : List ℤ) → j < length A → Inside (met A j g) A
 met-inside A j g l =
-    record
-      { long = length-set A j (meet (window A j) g)
-      ; each = at-set A j (meet (window A j) g) (λ i s. Within s (window A i)) l (λ v h. meet-in (window A j) g v h .0) (λ i n v h. h)
-      }
+    record {
+      long = length-set A j (meet (window A j) g);
+      each = at-set A j (meet (window A j) g) (λ i s. Within s (window A i)) l (λ v h. meet-in (window A j) g v h .0) (λ i n v h. h);
+    }
 
 -- what lies inside the one, met, and inside the other lies inside the other, met
 pub inside-met : (A T V : Table) (j : ℕ) (g : List ℤ) → j < length T → length T ≡ length A → Inside V (met A j g) → Inside V T → Inside V (met T j g)
 inside-met A T V j g l e h k =
-    record
-      { long = k .long ∙ sym (length-set T j (meet (window T j) g))
-      ; each = at-set T j (meet (window T j) g) (λ i s. Within (window V i) s) l (λ v q. in-meet (window T j) g v (k .each j v q) (meet-in (window A j) g v (rw (getD-set-same A j (meet (window A j) g) [] (omega arith)) at (h .each j v q)) .1)) (λ i n v q. k .each i v q)
-      }
+    record {
+      long = k .long ∙ sym (length-set T j (meet (window T j) g));
+      each = at-set T j (meet (window T j) g) (λ i s. Within (window V i) s) l (λ v q. in-meet (window T j) g v (k .each j v q) (meet-in (window A j) g v (rw (getD-set-same A j (meet (window A j) g) [] (omega arith)) at (h .each j v q)) .1)) (λ i n v q. k .each i v q);
+    }
 
 pub places-inside : (p : Placing) (T U : Table) → Places p T → Inside T U → Places p U
 places-inside p T U h k =
@@ -85,10 +87,10 @@ places-inside p T U h k =
 
 pub places-met : (A T : Table) (p : Placing) (j : ℕ) (g : List ℤ) → j < length T → length T ≡ length A → Places p (met A j g) → Places p T → Places p (met T j g)
 places-met A T p j g l e h k =
-    record
-      { long = k .long ∙ sym (length-set T j (meet (window T j) g))
-      ; each = λ i b. at-set T j (meet (window T j) g) (λ i s. i < length T → In (place p i) s) l (λ _. in-meet (window T j) g (place p j) (k .each j l) (meet-in (window A j) g (place p j) (rw (getD-set-same A j (meet (window A j) g) [] (omega arith)) at (h .each j (simp length-set (omega arith)))) .1)) (λ i n b. k .each i b) i (simp length-set at b)
-      }
+    record {
+      long = k .long ∙ sym (length-set T j (meet (window T j) g));
+      each = λ i b. at-set T j (meet (window T j) g) (λ i s. i < length T → In (place p i) s) l (λ _. in-meet (window T j) g (place p j) (k .each j l) (meet-in (window A j) g (place p j) (rw (getD-set-same A j (meet (window A j) g) [] (omega arith)) at (h .each j (simp length-set (omega arith)))) .1)) (λ i n b. k .each i b) i (simp length-set at b);
+    }
 
 -- two tables of windows that lie inside each other are the same
 pub inside-both : {sets : List ℤ → Type 0} (T U : Table) → Proper-sets sets → Every sets T → Every sets U → Inside T U → Inside U T → T ≡ U

@@ -55,6 +55,7 @@ module _ (sets : List ℤ → Type 0) (choice : List ℕ → ℕ) (proper : Prop
     where
       run : Call Verdict
       run = record { answer = Ok (settling choice s .verdict); after = settling choice s .after }
+
       go : (o : Option PlanRefusal) → (o ≡ None → P (Ok (settling choice s .verdict)) (settling choice s .after)) → P (unless o s run .answer) (unless o s run .after)
       go (Some f) d = not f
       go None d = d refl
@@ -79,15 +80,16 @@ module _ (sets : List ℤ → Type 0) (choice : List ℕ → ℕ) (proper : Prop
 -- a steady table is steady for fewer rules
 steady-fewer : (sets : List ℤ → Type 0) (asked asked′ : Table) (rs qs : List Rule) (U : Table) → asked ≡ asked′ → Among qs rs → Steady sets asked rs U → Steady sets asked′ qs U
 steady-fewer sets asked asked′ rs qs U e among h =
-    record
-      { kinds = h .kinds
-      ; inside = subst (Inside U) e (h .inside)
-      ; calm = λ i l. let (k, b, q) = among i l in subst (λ (r : Rule). r .narrow U ≡ narrowed U) q (h .calm k b)
-      }
+    record {
+      kinds = h .kinds;
+      inside = subst (Inside U) e (h .inside);
+      calm = λ i l. let (k, b, q) = among i l in subst (λ (r : Rule). r .narrow U ≡ narrowed U) q (h .calm k b);
+    }
 
 module _ (sets : List ℤ → Type 0) (proper : Proper-sets sets) (a a′ : Ask) (asked : a′ .asked ≡ a .asked) (rules : Same-rules (a .standing) (a′ .standing)) where
   there : (U : Table) → Steady sets (a .asked) (a .standing) U → Steady sets (a′ .asked) (a′ .standing) U
   there U = steady-fewer sets (a .asked) (a′ .asked) (a .standing) (a′ .standing) U (sym asked) (rules .back)
+
   back : (U : Table) → Steady sets (a′ .asked) (a′ .standing) U → Steady sets (a .asked) (a .standing) U
   back U = steady-fewer sets (a′ .asked) (a .asked) (a′ .standing) (a .standing) U asked (rules .there)
 

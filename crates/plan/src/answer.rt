@@ -8,8 +8,14 @@ use rulebook::BookRefusalPartialEq;
 // What a settling answers: its steps, and where it failed the rule and the window.
 #[derive(Clone, Copy, PartialEq, Debug)]
 pub enum Verdict {
-    Settled { steps: u64 },
-    Impossible { steps: u64, rule: usize, window: usize },
+    Settled {
+        steps: u64,
+    },
+    Impossible {
+        steps: u64,
+        rule: usize,
+        window: usize,
+    },
 }
 
 // What a cut did to its window.

@@ -17,10 +17,9 @@ use crate::settling::cut_rows;
 use crate::settling::put_all;
 use crate::settling::settle_rows;
 use crate::status::Status;
+pub use marks::Mark;
 use policies::Policy;
 use rulebook::RuleBook;
-
-pub use marks::Mark;
 
 #[derive(Drop)]
 pub struct Plan<B: RuleBook, P: Policy> {
@@ -42,12 +41,26 @@ impl<B: RuleBook, P: Policy> Plan<B, P> {
     {
         if let Some(refused) = board.refusal_for(book.reach()) {
             let status = Status::new(0);
-            return (Plan { book, policy, status }, Some(refused));
+            return (
+                Plan {
+                    book,
+                    policy,
+                    status,
+                },
+                Some(refused),
+            );
         }
         policy.clear();
         put_all(&mut policy, book.count());
         let status = Status::new(board.rows.len());
-        (Plan { book, policy, status }, None)
+        (
+            Plan {
+                book,
+                policy,
+                status,
+            },
+            None,
+        )
     }
 
     // Adds a rule, which waits, and answers its number.
@@ -71,7 +84,12 @@ impl<B: RuleBook, P: Policy> Plan<B, P> {
     }
 
     // Meets window j with another.
-    pub fn cut(&mut self, board: &mut Board<B::Kind>, j: usize, window: B::Kind) -> Result<Cutting, PlanRefusal>
+    pub fn cut(
+        &mut self,
+        board: &mut Board<B::Kind>,
+        j: usize,
+        window: B::Kind,
+    ) -> Result<Cutting, PlanRefusal>
         ensures equation { λ r. ⌜ (let see = state-of (B·RuleBook .rules) (P·Policy .waiting) (Kind·Window .stands) in
             cut-call j (Kind·Window .numbers window) (length (now (now (board .entry) .store))) (see (now (self .entry)) (now (board .entry)))
             ≡ record { answer = r; after = see (now (self .exit)) (now (board .exit)) }) ⌝ }
@@ -81,7 +99,15 @@ impl<B: RuleBook, P: Policy> Plan<B, P> {
             Carries (B·RuleBook .sets) (P·Policy .choice) (if-ok r (ask-cut j (Kind·Window .numbers window))) (see (now (self .entry)) (now (board .entry))) (see (now (self .exit)) (now (board .exit)))) ⌝ }
     {
         let stored = board.store.len();
-        cut_rows(&self.book, &mut self.policy, &mut self.status, board.rows, stored, j, window)
+        cut_rows(
+            &self.book,
+            &mut self.policy,
+            &mut self.status,
+            board.rows,
+            stored,
+            j,
+            window,
+        )
     }
 
     // Narrows by the waiting rules until none waits.
@@ -101,7 +127,13 @@ impl<B: RuleBook, P: Policy> Plan<B, P> {
             Agrees (B·RuleBook .sets) (P·Policy .choice) (see (now (self .entry)) (now (board .entry))) r (see (now (self .exit)) (now (board .exit)))) ⌝ }
     {
         let stored = board.store.len();
-        settle_rows(&self.book, &mut self.policy, &mut self.status, board.rows, stored)
+        settle_rows(
+            &self.book,
+            &mut self.policy,
+            &mut self.status,
+            board.rows,
+            stored,
+        )
     }
 
     // Gives one window.

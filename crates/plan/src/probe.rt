@@ -14,7 +14,12 @@ use policies::Policy;
 use rulebook::RuleBook;
 
 // What a settling answers after this cut. The plan is then back at its windows, with every rule waiting.
-pub fn try_cut<B: RuleBook, P: Policy>(plan: &mut Plan<B, P>, board: &mut Board<B::Kind>, j: usize, window: B::Kind) -> Result<Verdict, PlanRefusal>
+pub fn try_cut<B: RuleBook, P: Policy>(
+    plan: &mut Plan<B, P>,
+    board: &mut Board<B::Kind>,
+    j: usize,
+    window: B::Kind,
+) -> Result<Verdict, PlanRefusal>
     ensures equation { λ r. ⌜ (let see = state-of (B·RuleBook .rules) (P·Policy .waiting) (Kind·Window .stands) in
         try-call (P·Policy .choice) j (Kind·Window .numbers window) (length (now (now (board .entry) .store))) (see (now (plan .entry)) (now (board .entry)))
         ≡ record { answer = r; after = see (now (plan .exit)) (now (board .exit)) }) ⌝ }

@@ -69,7 +69,11 @@ fn put_readers<B: RuleBook, P: Policy>(book: &B, policy: &mut P, j: usize)
 }
 
 // Takes waiting rules and narrows by them, until none waits or a window is emptied.
-fn run_rows<B: RuleBook, P: Policy>(book: &B, policy: &mut P, rows: &mut [<B::Kind as Window>::Row]) -> Verdict
+fn run_rows<B: RuleBook, P: Policy>(
+    book: &B,
+    policy: &mut P,
+    rows: &mut [<B::Kind as Window>::Row],
+) -> Verdict
     requires few { ⌜ length (now rows) ≤ 64 ⌝ }
     requires windows { ⌜ Every (B·RuleBook .sets) (map (Kind·Window .stands) (now rows)) ⌝ }
     ensures { λ r. ⌜ Runs (P·Policy .choice) (B·RuleBook .rules (now (book .entry))) (P·Policy .waiting (now (policy .entry))) (map (Kind·Window .stands) (now (rows .entry))) r (P·Policy .waiting (now (policy .exit))) (map (Kind·Window .stands) (now (rows .exit))) ⌝ }
@@ -80,14 +84,24 @@ fn run_rows<B: RuleBook, P: Policy>(book: &B, policy: &mut P, rows: &mut [<B::Ki
         steps += 1;
         match book.narrow(rule, rows) {
             Narrowing::Changed(changes) => wake(book, policy, changes, windows),
-            Narrowing::Emptied(window) => return Verdict::Impossible { steps, rule, window },
+            Narrowing::Emptied(window) => return Verdict::Impossible {
+                steps,
+                rule,
+                window,
+            },
         }
     }
     Verdict::Settled { steps }
 }
 
 // Settles rows with a store of the given length.
-pub fn settle_rows<B: RuleBook, P: Policy>(book: &B, policy: &mut P, status: &mut Status, rows: &mut [<B::Kind as Window>::Row], stored: usize) -> Result<Verdict, PlanRefusal>
+pub fn settle_rows<B: RuleBook, P: Policy>(
+    book: &B,
+    policy: &mut P,
+    status: &mut Status,
+    rows: &mut [<B::Kind as Window>::Row],
+    stored: usize,
+) -> Result<Verdict, PlanRefusal>
     ensures equation { λ r. ⌜ SettlesRows (Kind·Window .stands) (P·Policy .choice) (B·RuleBook .rules (now (book .entry))) stored (P·Policy .waiting (now (policy .entry))) (now (status .entry)) (now (rows .entry)) r (P·Policy .waiting (now (policy .exit))) (now (status .exit)) (now (rows .exit)) ⌝ }
     ensures rows { λ r. ⌜ Untouched r (now (rows .entry)) (now (rows .exit)) ⌝ }
 {
@@ -109,7 +123,15 @@ pub fn settle_rows<B: RuleBook, P: Policy>(book: &B, policy: &mut P, status: &mu
 }
 
 // Meets window j of rows with a store of the given length with another window.
-pub fn cut_rows<B: RuleBook, P: Policy>(book: &B, policy: &mut P, status: &mut Status, rows: &mut [<B::Kind as Window>::Row], stored: usize, j: usize, window: B::Kind) -> Result<Cutting, PlanRefusal>
+pub fn cut_rows<B: RuleBook, P: Policy>(
+    book: &B,
+    policy: &mut P,
+    status: &mut Status,
+    rows: &mut [<B::Kind as Window>::Row],
+    stored: usize,
+    j: usize,
+    window: B::Kind,
+) -> Result<Cutting, PlanRefusal>
     ensures equation { λ r. ⌜ CutsRows (Kind·Window .stands) (B·RuleBook .rules (now (book .entry))) stored j (Kind·Window .numbers window) (P·Policy .waiting (now (policy .entry))) (now (status .entry)) (now (rows .entry)) r (P·Policy .waiting (now (policy .exit))) (now (status .exit)) (now (rows .exit)) ⌝ }
     ensures rows { λ r. ⌜ Untouched r (now (rows .entry)) (now (rows .exit)) ⌝ }
 {

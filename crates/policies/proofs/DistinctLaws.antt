@@ -71,6 +71,7 @@ at-most (suc n) w d h = ⊎-elim (has (at-most n (remove n w) (distinct-remove n
     has ih e =
         let l : length (remove n w) ≤ n = ih (λ i k. ⊎-elim (λ (q : i ≡ n). absurd (both-ways (holds n (remove n w)) (remove-gone n w d) (rw q at k))) (λ (q : i ≡ n → ⊥). let b = h i (remove-old i n w k) in omega arith) (cases-eq i n)) in
         omega (arith, remove-long n w e)
+
     lacks : (((i : ℕ) → holds i w ≡ true → i < n) → length w ≤ n) → holds n w ≡ false → length w ≤ suc n
     lacks ih e =
         let l : length w ≤ n = ih (λ i k. ⊎-elim (λ (q : i ≡ n). absurd (both-ways (holds n w) e (rw q at k))) (λ (q : i ≡ n → ⊥). let b = h i k in omega arith) (cases-eq i n)) in
@@ -100,9 +101,6 @@ remove-at (suc k) (x ∷ w) d l =
     holds-at k [] l = absurd (omega arith)
     holds-at zero (x ∷ w) l = or-left (eqb x x) (holds x w) (eq-eqb x x refl)
     holds-at (suc k) (x ∷ w) l = or-right (eqb (getD w k 0) x) (holds (getD w k 0) w) (holds-at k w (omega arith))
-
-pub first-chooses : Chooses first
-first-chooses x w = or-left (eqb x x) (holds x w) (eq-eqb x x refl)
 
 -- the lowest number stands in the list and below all others
 lowest-held : (x : ℕ) (w : List ℕ) → holds (lowest (x ∷ w)) (x ∷ w) ≡ true

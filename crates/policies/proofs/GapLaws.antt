@@ -10,7 +10,6 @@ use mathlib.Core.Bool.{true}
 use Rattle.policies.specs.Waiting.{distinct, remove}
 use Rattle.policies.proofs.DistinctLaws.{remove-at}
 
-
 without-long : (k : ℕ) (s : List ℕ) → k < length s → length (take k s ++ drop (k + 1) s) + 1 ≡ length s
 without-long k s l = simp (length-append, length-drop) (let e : length (take k s) ≡ k = length-take-le k s (omega arith) in omega arith)
 
@@ -22,14 +21,19 @@ gap-more k j s t l m e = written ∙ sym last
   where
     R : List ℕ
     R = take k s ++ drop (k + 1) s
+
     long : length (take j R) ≡ j
     long = length-take-le j R (omega (arith, without-long k s (omega arith)))
+
     next : getD t (j + 1) 0 ≡ getD s (j + 1) 0
     next = ap (λ (u : List ℕ). getD u (j + 1) 0) e ∙ getD-append-right (take j R) (drop j s) j (j + 1) 0 long (omega arith) ∙ getD-drop j s (j + 1 - j) 0 ∙ ap (λ (i : ℕ). getD s i 0) (omega arith)
+
     here : getD R j 0 ≡ getD s (j + 1) 0
     here = getD-append-right (take k s) (drop (k + 1) s) k j 0 (length-take-le k s (omega arith)) l ∙ getD-drop (k + 1) s (j - k) 0 ∙ ap (λ (i : ℕ). getD s i 0) (omega arith)
+
     written : set t j (getD t (j + 1) 0) ≡ take j R ++ (getD s (j + 1) 0 ∷ drop (j + 1) s)
     written = ap (set t j) next ∙ ap (λ (u : List ℕ). set u j (getD s (j + 1) 0)) (e ∙ ap (λ (u : List ℕ). take j R ++ u) (drop-more s j 0 (omega arith))) ∙ set-at (take j R) (getD s j 0) (drop (j + 1) s) (getD s (j + 1) 0) j long
+
     last : take (j + 1) R ++ drop (j + 1) s ≡ take j R ++ (getD s (j + 1) 0 ∷ drop (j + 1) s)
     last = ap (λ (u : List ℕ). u ++ drop (j + 1) s) (take-more R j 0 (omega (arith, without-long k s (omega arith))) ∙ ap (λ (x : ℕ). take j R ++ (x ∷ [])) here) ∙ append-assoc (take j R) (getD s (j + 1) 0 ∷ []) (drop (j + 1) s)
 

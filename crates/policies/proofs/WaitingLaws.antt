@@ -47,6 +47,7 @@ puts-new f (suc n) i w m l e = ⊎-elim last (before (λ b. puts-new f n i w (om
   where
     last : i ≡ n → holds i (cond (f n) (put n (puts f n w)) (puts f n w)) ≡ true
     last q = rw q (rw (rw q at e) (put-self n (puts f n w) m))
+
     before : (i < n → holds i (puts f n w) ≡ true) → (i ≡ n → ⊥) → holds i (cond (f n) (put n (puts f n w)) (puts f n w)) ≡ true
     before ih q =
         let k : holds i (puts f n w) ≡ true = ih (omega arith) in

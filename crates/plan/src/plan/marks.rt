@@ -119,7 +119,11 @@ impl<B: RuleBook, P: Policy> Plan<B, P> {
         board.save(depth * self.status.windows);
         let count = self.book.count();
         let impossible = self.status.impossible;
-        self.status.push(Slot { number, count, impossible });
+        self.status.push(Slot {
+            number,
+            count,
+            impossible,
+        });
         Ok(Mark { number })
     }
 
@@ -143,7 +147,11 @@ impl<B: RuleBook, P: Policy> Plan<B, P> {
     }
 
     // Ends the mark and all later ones, and puts back what was copied, with every rule waiting.
-    pub fn take_back(&mut self, board: &mut Board<B::Kind>, mark: Mark) -> Result<Closing, PlanRefusal>
+    pub fn take_back(
+        &mut self,
+        board: &mut Board<B::Kind>,
+        mark: Mark,
+    ) -> Result<Closing, PlanRefusal>
         ensures equation { λ r. ⌜ (let see = state-of (B·RuleBook .rules) (P·Policy .waiting) (Kind·Window .stands) in
             back-call (mark .number) (length (now (now (board .entry) .store))) (see (now (self .entry)) (now (board .entry)))
             ≡ record { answer = r; after = see (now (self .exit)) (now (board .exit)) }) ⌝ }

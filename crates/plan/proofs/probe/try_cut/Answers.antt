@@ -92,8 +92,8 @@ returns-in-Err g c =
     let long = length (board .store .now) in
     let f = c .in-Err .refused in
     let marks = c .in-Err .ensures tt .equation in
-    record
-      { equation = ap (λ (k : Call Mark). try-marked (g .P·Policy .choice) (c .args .j) (g .Kind·Window .numbers (c .args .window)) long (k .answer) (k .after)) marks
-      ; rows = mark-rows long s t (Err f) (board .rows .now) (c .mark .last .board .rows .now) marks (c .mark .ensures .rows)
-      ; store = mark-store long s t (Err f) (board .store .now) (c .mark .last .board .store .now) (board .rows .now) (length (s .marks) * s .windows) marks (c .in-Err .ensures tt .store)
-      }
+    record {
+      equation = ap (λ (k : Call Mark). try-marked (g .P·Policy .choice) (c .args .j) (g .Kind·Window .numbers (c .args .window)) long (k .answer) (k .after)) marks;
+      rows = mark-rows long s t (Err f) (board .rows .now) (c .mark .last .board .rows .now) marks (c .mark .ensures .rows);
+      store = mark-store long s t (Err f) (board .store .now) (c .mark .last .board .store .now) (board .rows .now) (length (s .marks) * s .windows) marks (c .in-Err .ensures tt .store);
+    }

@@ -8,6 +8,7 @@ pub loop-rule-again : need.loop-rule-again
 loop-rule-again g c =
     let f = reads-at (g .B·RuleBook .rules (c .args .book .now)) (c .args .j) in
     let before = g .P·Policy .waiting (c .args .policy .now) in
-    elim (c .if-reads .came)
-    [ then-reads w ↦ puts-yes f (c .loop-rule .rule) before (g .P·Policy .waiting (c .loop-rule .policy)) (g .P·Policy .waiting (c .if-reads .policy)) (c .loop-rule .inv) (sym (c .reads .ensures) ∙ w .if-reads .taken) (ap (g .P·Policy .waiting) (w .policy-is) ∙ w .put .ensures)
-    | else-reads w ↦ puts-no f (c .loop-rule .rule) before (g .P·Policy .waiting (c .loop-rule .policy)) (g .P·Policy .waiting (c .if-reads .policy)) (c .loop-rule .inv) (sym (c .reads .ensures) ∙ w .if-reads .left) (ap (g .P·Policy .waiting) (w .policy-is)) ]
+    elim (c .if-reads .came) [
+      | then-reads w ↦ puts-yes f (c .loop-rule .rule) before (g .P·Policy .waiting (c .loop-rule .policy)) (g .P·Policy .waiting (c .if-reads .policy)) (c .loop-rule .inv) (sym (c .reads .ensures) ∙ w .if-reads .taken) (ap (g .P·Policy .waiting) (w .policy-is) ∙ w .put .ensures)
+      | else-reads w ↦ puts-no f (c .loop-rule .rule) before (g .P·Policy .waiting (c .loop-rule .policy)) (g .P·Policy .waiting (c .if-reads .policy)) (c .loop-rule .inv) (sym (c .reads .ensures) ∙ w .if-reads .left) (ap (g .P·Policy .waiting) (w .policy-is))
+    ]

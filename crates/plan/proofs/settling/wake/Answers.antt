@@ -13,9 +13,10 @@ pub loop-i-again : need.loop-i-again
 loop-i-again g c =
     let f = wakes (g .B·RuleBook .rules (c .args .book .now)) (c .args .changes) (c .args .windows) in
     let before = g .P·Policy .waiting (c .args .policy .now) in
-    elim (c .if-touches .came)
-    [ then-touches w ↦ puts-yes f (c .loop-i .i) before (g .P·Policy .waiting (c .loop-i .policy)) (g .P·Policy .waiting (c .if-touches .policy)) (c .loop-i .inv) (sym (c .touches .ensures) ∙ w .if-touches .taken) (ap (g .P·Policy .waiting) (w .policy-is) ∙ w .put .ensures)
-    | else-touches w ↦ puts-no f (c .loop-i .i) before (g .P·Policy .waiting (c .loop-i .policy)) (g .P·Policy .waiting (c .if-touches .policy)) (c .loop-i .inv) (sym (c .touches .ensures) ∙ w .if-touches .left) (ap (g .P·Policy .waiting) (w .policy-is)) ]
+    elim (c .if-touches .came) [
+      | then-touches w ↦ puts-yes f (c .loop-i .i) before (g .P·Policy .waiting (c .loop-i .policy)) (g .P·Policy .waiting (c .if-touches .policy)) (c .loop-i .inv) (sym (c .touches .ensures) ∙ w .if-touches .taken) (ap (g .P·Policy .waiting) (w .policy-is) ∙ w .put .ensures)
+      | else-touches w ↦ puts-no f (c .loop-i .i) before (g .P·Policy .waiting (c .loop-i .policy)) (g .P·Policy .waiting (c .if-touches .policy)) (c .loop-i .inv) (sym (c .touches .ensures) ∙ w .if-touches .left) (ap (g .P·Policy .waiting) (w .policy-is))
+    ]
 
 pub returns-then-is-empty : need.returns-then-is-empty
 returns-then-is-empty g c =

@@ -17,9 +17,9 @@ returns g c =
     let window = g .Kind·Window .numbers (c .args .window) in
     let board = refused (length (c .args .board .now .store .now)) s in
     let equation = c .cut-rows .ensures .equation (c .args .board .now .store .now) in
-    record
-      { equation = equation
-      ; rows = c .cut-rows .ensures .rows
-      ; store = refl
-      ; asked = call-carries (g .B·RuleBook .sets) (g .P·Policy .choice) (proper-sets (g .Kind·Window .kind) (g .Kind·Window·met .proper) (g .B·RuleBook .sets) (g .B·RuleBook·met .tied)) (g .P·Policy·met .chooses) (ask-cut j window) s (or-else board (window-refusal j (s .table))) (cutting j window s .answer) (cutting j window s .after) _ _ (λ o a h. cut j window a s (in-table-from j (s .table) (none-asked board (window-refusal j (s .table)) o .1)) (g .B·RuleBook·met .tied window .1 (g .Kind·Window·met .kinds (c .args .window))) h) equation
-      }
+    record {
+      equation = equation;
+      rows = c .cut-rows .ensures .rows;
+      store = refl;
+      asked = call-carries (g .B·RuleBook .sets) (g .P·Policy .choice) (proper-sets (g .Kind·Window .kind) (g .Kind·Window·met .proper) (g .B·RuleBook .sets) (g .B·RuleBook·met .tied)) (g .P·Policy·met .chooses) (ask-cut j window) s (or-else board (window-refusal j (s .table))) (cutting j window s .answer) (cutting j window s .after) _ _ (λ o a h. cut j window a s (in-table-from j (s .table) (none-asked board (window-refusal j (s .table)) o .1)) (g .B·RuleBook·met .tied window .1 (g .Kind·Window·met .kinds (c .args .window))) h) equation;
+    }

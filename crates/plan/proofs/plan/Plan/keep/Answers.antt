@@ -22,10 +22,10 @@ pub returns-in-Some : need.returns-in-Some
 returns-in-Some g c =
     let s : State = state-of (g .B·RuleBook .rules) (g .P·Policy .waiting) (g .Kind·Window .stands) (c .args .self .now) (c .args .board .now) in
     let board = refused (length (c .args .board .now .store .now)) s in
-    record
-      { equation = call-refused (or-else board (open-refusal (c .args .mark .number) s)) (c .in-Some .refused) s (record { answer = Ok Done; after = keeping (c .args .mark .number) s }) (asked-first board (open-refusal (c .args .mark .number) s) (c .in-Some .refused) (c .in-Some .ensures tt))
-      ; asked = refused-carries (g .B·RuleBook .sets) (g .P·Policy .choice) (proper-sets (g .Kind·Window .kind) (g .Kind·Window·met .proper) (g .B·RuleBook .sets) (g .B·RuleBook·met .tied)) (g .P·Policy·met .chooses) s
-      }
+    record {
+      equation = call-refused (or-else board (open-refusal (c .args .mark .number) s)) (c .in-Some .refused) s (record { answer = Ok Done; after = keeping (c .args .mark .number) s }) (asked-first board (open-refusal (c .args .mark .number) s) (c .in-Some .refused) (c .in-Some .ensures tt));
+      asked = refused-carries (g .B·RuleBook .sets) (g .P·Policy .choice) (proper-sets (g .Kind·Window .kind) (g .Kind·Window·met .proper) (g .B·RuleBook .sets) (g .B·RuleBook·met .tied)) (g .P·Policy·met .chooses) s;
+    }
 
 pub returns-in-rest-find : need.returns-in-rest-find
 returns-in-rest-find g c =
@@ -34,10 +34,10 @@ returns-in-rest-find g c =
     let plan = c .args .self .now in
     let m = c .args .mark .number in
     let ended : is-open m (s .marks) ≡ false = found-ended (g .Kind·Window .stands) (plan .status .slots) (plan .status .windows) (c .args .board .now .store .now) m (plan .status .depth) (sym (c .in-rest-find .ensures tt)) in
-    record
-      { equation = call-refused (or-else board (open-refusal (c .args .mark .number) s)) Ended s (record { answer = Ok Done; after = keeping (c .args .mark .number) s }) (asked-next board (open-refusal m s) (Some Ended) (c .in-rest .ensures tt) (has-ended m s ended))
-      ; asked = refused-carries (g .B·RuleBook .sets) (g .P·Policy .choice) (proper-sets (g .Kind·Window .kind) (g .Kind·Window·met .proper) (g .B·RuleBook .sets) (g .B·RuleBook·met .tied)) (g .P·Policy·met .chooses) s
-      }
+    record {
+      equation = call-refused (or-else board (open-refusal (c .args .mark .number) s)) Ended s (record { answer = Ok Done; after = keeping (c .args .mark .number) s }) (asked-next board (open-refusal m s) (Some Ended) (c .in-rest .ensures tt) (has-ended m s ended));
+      asked = refused-carries (g .B·RuleBook .sets) (g .P·Policy .choice) (proper-sets (g .Kind·Window .kind) (g .Kind·Window·met .proper) (g .B·RuleBook .sets) (g .B·RuleBook·met .tied)) (g .P·Policy·met .chooses) s;
+    }
 
 pub close-requires : need.close-requires
 close-requires g c κs =
@@ -58,7 +58,7 @@ returns g c =
     let none : o ≡ None = asked-next (refused (length store) s) (open-refusal m s) None (c .in-rest .ensures tt) (still-open m s (found-open stands (status .slots) (status .windows) store m (status .depth) (c .in-Some-find .k) f)) in
     let same = same-state {q = s .rules} {v = s .waiting} {T = s .table} refl refl (c .close .ensures .impossible) refl (c .close .ensures .windows) (same-copies stands {s = store} refl (c .close .ensures .slots) (c .close .ensures .windows) (c .close .ensures .depth)) (c .close .ensures .handed) in
     let equation = call-done o s (record { answer = Ok Done; after = keeping m s }) (record { answer = Ok Done; after = _ }) none (ap {B = Call Closing} (λ (t : State). record { answer = Ok Done; after = t }) (keep-found stands (status .slots) (status .windows) store m s (status .depth) (c .in-Some-find .k) f ∙ sym same)) in
-    record
-      { equation = equation
-      ; asked = call-carries (g .B·RuleBook .sets) (g .P·Policy .choice) (proper-sets (g .Kind·Window .kind) (g .Kind·Window·met .proper) (g .B·RuleBook .sets) (g .B·RuleBook·met .tied)) (g .P·Policy·met .chooses) (ask-kept m) s o Done (keeping m s) _ _ (λ _ a h. kept m a s h) equation
-      }
+    record {
+      equation = equation;
+      asked = call-carries (g .B·RuleBook .sets) (g .P·Policy .choice) (proper-sets (g .Kind·Window .kind) (g .Kind·Window·met .proper) (g .B·RuleBook .sets) (g .B·RuleBook·met .tied)) (g .P·Policy·met .chooses) (ask-kept m) s o Done (keeping m s) _ _ (λ _ a h. kept m a s h) equation;
+    }

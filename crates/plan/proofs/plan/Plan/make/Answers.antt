@@ -31,12 +31,12 @@ returns-in-Some g c =
     let status = c .new-status .result in
     let e : make-refused rules T (length store) ≡ Some (c .in-Some .refused) = sym (c .in-Some .ensures tt ∙ ap (λ (n : ℕ). board-refusal T (length store) (leb n (length T))) (c .reach .ensures)) in
     let same = same-state {q = rules} {v = w} {T = T} refl refl (c .new-status .ensures .possible) refl (c .new-status .ensures .windows) (ap (copies stands (status .slots) (status .windows) store) (c .new-status .ensures .depth)) (c .new-status .ensures .handed) in
-    record
-      { equation = ap (λ (o : Option PlanRefusal). made-unless o rules w T) e ∙ ap {B = Made} (λ (t : State). record { refusal = Some (c .in-Some .refused); after = t }) (sym same)
-      ; book = refl
-      ; policy = refl
-      ; asked = tt
-      }
+    record {
+      equation = ap (λ (o : Option PlanRefusal). made-unless o rules w T) e ∙ ap {B = Made} (λ (t : State). record { refusal = Some (c .in-Some .refused); after = t }) (sym same);
+      book = refl;
+      policy = refl;
+      asked = tt;
+    }
 
 pub returns : need.returns
 returns g c =
@@ -52,9 +52,9 @@ returns g c =
     let same = same-state {q = rules} {T = T} refl waits (c .new-status-2 .ensures .possible) refl (c .new-status-2 .ensures .windows ∙ sym (length-map rows stands)) (ap (copies stands (status .slots) (status .windows) store) (c .new-status-2 .ensures .depth)) (c .new-status-2 .ensures .handed) in
     let kinds = all-kinds stands sets rows (λ row n. g .B·RuleBook·met .tied (stands row) .1 (g .Kind·Window·met .rows row n)) (fine T (length store) (leb (reach-of rules 64) (length T)) e .windows) in
     let reached = subst (Reached sets (g .P·Policy .choice) (ask-made rules T)) (sym same) (made rules T (g .B·RuleBook·met .few (c .args .book)) (g .B·RuleBook·met .lawful (c .args .book)) kinds) in
-    record
-      { equation = ap (λ (o : Option PlanRefusal). made-unless o rules (g .P·Policy .waiting (c .args .policy)) T) e ∙ ap {B = Made} (λ (t : State). record { refusal = None; after = t }) (sym same)
-      ; book = refl
-      ; policy = tt
-      ; asked = (reached, reached-holds sets (g .P·Policy .choice) (proper-sets (g .Kind·Window .kind) (g .Kind·Window·met .proper) sets (g .B·RuleBook·met .tied)) (g .P·Policy·met .chooses) (ask-made rules T) _ reached)
-      }
+    record {
+      equation = ap (λ (o : Option PlanRefusal). made-unless o rules (g .P·Policy .waiting (c .args .policy)) T) e ∙ ap {B = Made} (λ (t : State). record { refusal = None; after = t }) (sym same);
+      book = refl;
+      policy = tt;
+      asked = (reached, reached-holds sets (g .P·Policy .choice) (proper-sets (g .Kind·Window .kind) (g .Kind·Window·met .proper) sets (g .B·RuleBook·met .tied)) (g .P·Policy·met .chooses) (ask-made rules T) _ reached);
+    }

@@ -26,12 +26,12 @@ pub returns-in-Some : need.returns-in-Some
 returns-in-Some g c =
     let s : State = state-of (g .B·RuleBook .rules) (g .P·Policy .waiting) (g .Kind·Window .stands) (c .args .self .now) (c .args .board .now) in
     let board = refused (length (c .args .board .now .store .now)) s in
-    record
-      { equation = call-refused (or-else board (mark-refusal s)) (c .in-Some .refused) s (record { answer = Ok (record { number = s .handed }); after = marking s }) (asked-first board (mark-refusal s) (c .in-Some .refused) (c .in-Some .ensures tt))
-      ; rows = refl
-      ; store = refl
-      ; asked = refused-carries (g .B·RuleBook .sets) (g .P·Policy .choice) (proper-sets (g .Kind·Window .kind) (g .Kind·Window·met .proper) (g .B·RuleBook .sets) (g .B·RuleBook·met .tied)) (g .P·Policy·met .chooses) s
-      }
+    record {
+      equation = call-refused (or-else board (mark-refusal s)) (c .in-Some .refused) s (record { answer = Ok (record { number = s .handed }); after = marking s }) (asked-first board (mark-refusal s) (c .in-Some .refused) (c .in-Some .ensures tt));
+      rows = refl;
+      store = refl;
+      asked = refused-carries (g .B·RuleBook .sets) (g .P·Policy .choice) (proper-sets (g .Kind·Window .kind) (g .Kind·Window·met .proper) (g .B·RuleBook .sets) (g .B·RuleBook·met .tied)) (g .P·Policy·met .chooses) s;
+    }
 
 pub returns-then-depth-ge16 : need.returns-then-depth-ge16
 returns-then-depth-ge16 g c =
@@ -40,12 +40,12 @@ returns-then-depth-ge16 g c =
     let status = c .args .self .now .status in
     let long = copies-long (g .Kind·Window .stands) (status .slots) (status .windows) (c .args .board .now .store .now) 0 (status .depth) in
     let l : 16 ≤ length (s .marks) = omega (arith, long, c .if-depth-ge16 .taken) in
-    record
-      { equation = call-refused (or-else board (mark-refusal s)) Marks s (record { answer = Ok (record { number = s .handed }); after = marking s }) (asked-next board (mark-refusal s) (Some Marks) (c .in-rest .ensures tt) (too-many s l))
-      ; rows = refl
-      ; store = refl
-      ; asked = refused-carries (g .B·RuleBook .sets) (g .P·Policy .choice) (proper-sets (g .Kind·Window .kind) (g .Kind·Window·met .proper) (g .B·RuleBook .sets) (g .B·RuleBook·met .tied)) (g .P·Policy·met .chooses) s
-      }
+    record {
+      equation = call-refused (or-else board (mark-refusal s)) Marks s (record { answer = Ok (record { number = s .handed }); after = marking s }) (asked-next board (mark-refusal s) (Some Marks) (c .in-rest .ensures tt) (too-many s l));
+      rows = refl;
+      store = refl;
+      asked = refused-carries (g .B·RuleBook .sets) (g .P·Policy .choice) (proper-sets (g .Kind·Window .kind) (g .Kind·Window·met .proper) (g .B·RuleBook .sets) (g .B·RuleBook·met .tied)) (g .P·Policy·met .chooses) s;
+    }
 
 pub returns-then-number-ge1000000000 : need.returns-then-number-ge1000000000
 returns-then-number-ge1000000000 g c =
@@ -54,12 +54,12 @@ returns-then-number-ge1000000000 g c =
     let status = c .args .self .now .status in
     let long = copies-long (g .Kind·Window .stands) (status .slots) (status .windows) (c .args .board .now .store .now) 0 (status .depth) in
     let l : length (s .marks) < 16 = omega (arith, long, c .if-depth-ge16 .left) in
-    record
-      { equation = call-refused (or-else board (mark-refusal s)) Handed s (record { answer = Ok (record { number = s .handed }); after = marking s }) (asked-next board (mark-refusal s) (Some Handed) (c .in-rest .ensures tt) (all-handed s l (c .if-number-ge1000000000 .taken)))
-      ; rows = refl
-      ; store = refl
-      ; asked = refused-carries (g .B·RuleBook .sets) (g .P·Policy .choice) (proper-sets (g .Kind·Window .kind) (g .Kind·Window·met .proper) (g .B·RuleBook .sets) (g .B·RuleBook·met .tied)) (g .P·Policy·met .chooses) s
-      }
+    record {
+      equation = call-refused (or-else board (mark-refusal s)) Handed s (record { answer = Ok (record { number = s .handed }); after = marking s }) (asked-next board (mark-refusal s) (Some Handed) (c .in-rest .ensures tt) (all-handed s l (c .if-number-ge1000000000 .taken)));
+      rows = refl;
+      store = refl;
+      asked = refused-carries (g .B·RuleBook .sets) (g .P·Policy .choice) (proper-sets (g .Kind·Window .kind) (g .Kind·Window·met .proper) (g .B·RuleBook .sets) (g .B·RuleBook·met .tied)) (g .P·Policy·met .chooses) s;
+    }
 
 pub mul-depth : need.mul-depth
 mul-depth g c =
@@ -97,9 +97,9 @@ returns g c =
     let same = same-state {q = s .rules} {v = s .waiting} refl refl (c .push .ensures .impossible) (ap (map stands) (c .save .ensures .rows)) (c .push .ensures .windows) (marks ∙ named) (c .push .ensures .handed ∙ add-one (status .handed)) in
     let token : Mark = record { number = status .handed } in
     let equation = call-done o s (record { answer = Ok token; after = marking s }) (record { answer = Ok token; after = _ }) none (ap {B = Call Mark} (λ (t : State). record { answer = Ok token; after = t }) (sym same)) in
-    record
-      { equation = equation
-      ; rows = c .save .ensures .rows
-      ; store = c .save .ensures .store ∙ ap (λ (d : ℕ). stored store (d * status .windows) rows) (sym long)
-      ; asked = call-carries (g .B·RuleBook .sets) (g .P·Policy .choice) (proper-sets (g .Kind·Window .kind) (g .Kind·Window·met .proper) (g .B·RuleBook .sets) (g .B·RuleBook·met .tied)) (g .P·Policy·met .chooses) (ask-marked (status .handed)) s o token (marking s) _ _ (λ _ a h. marked a s h) equation
-      }
+    record {
+      equation = equation;
+      rows = c .save .ensures .rows;
+      store = c .save .ensures .store ∙ ap (λ (d : ℕ). stored store (d * status .windows) rows) (sym long);
+      asked = call-carries (g .B·RuleBook .sets) (g .P·Policy .choice) (proper-sets (g .Kind·Window .kind) (g .Kind·Window·met .proper) (g .B·RuleBook .sets) (g .B·RuleBook·met .tied)) (g .P·Policy·met .chooses) (ask-marked (status .handed)) s o token (marking s) _ _ (λ _ a h. marked a s h) equation;
+    }

@@ -19,10 +19,10 @@ returns-in-Some g c =
     let r = g .B·RuleBook .meaning (c .args .rule) in
     let board = refused (length (c .args .board .now .store .now)) s in
     let book = by-book (g .B·RuleBook .refuses (c .args .self .now .book) (c .args .rule) (c .args .self .now .status .windows)) in
-    record
-      { equation = call-refused (or-else board book) (c .in-Some .refused) s (record { answer = Ok (length (s .rules)); after = posting r s }) (asked-first board book (c .in-Some .refused) (c .in-Some .ensures tt))
-      ; asked = refused-carries (g .B·RuleBook .sets) (g .P·Policy .choice) (proper-sets (g .Kind·Window .kind) (g .Kind·Window·met .proper) (g .B·RuleBook .sets) (g .B·RuleBook·met .tied)) (g .P·Policy·met .chooses) s
-      }
+    record {
+      equation = call-refused (or-else board book) (c .in-Some .refused) s (record { answer = Ok (length (s .rules)); after = posting r s }) (asked-first board book (c .in-Some .refused) (c .in-Some .ensures tt));
+      asked = refused-carries (g .B·RuleBook .sets) (g .P·Policy .choice) (proper-sets (g .Kind·Window .kind) (g .Kind·Window·met .proper) (g .B·RuleBook .sets) (g .B·RuleBook·met .tied)) (g .P·Policy·met .chooses) s;
+    }
 
 pub returns-in-Err : need.returns-in-Err
 returns-in-Err g c =
@@ -31,10 +31,10 @@ returns-in-Err g c =
     let long = length (c .args .board .now .store .now) in
     let o = g .B·RuleBook .refuses (c .args .self .now .book) (c .args .rule) (c .args .self .now .status .windows) in
     let equation = post-refused r o long s (c .in-rest .ensures tt) (g .B·RuleBook .rules (c .post .last .self)) (c .in-Err .refused) (c .in-Err .ensures tt) in
-    record
-      { equation = equation
-      ; asked = refused-calls (g .B·RuleBook .sets) (g .P·Policy .choice) (proper-sets (g .Kind·Window .kind) (g .Kind·Window·met .proper) (g .B·RuleBook .sets) (g .B·RuleBook·met .tied)) (g .P·Policy·met .chooses) (ask-posted r) s (or-else (refused long s) (by-book o)) (length (s .rules)) (posting r s) (Book (c .in-Err .refused)) _ equation
-      }
+    record {
+      equation = equation;
+      asked = refused-calls (g .B·RuleBook .sets) (g .P·Policy .choice) (proper-sets (g .Kind·Window .kind) (g .Kind·Window·met .proper) (g .B·RuleBook .sets) (g .B·RuleBook·met .tied)) (g .P·Policy·met .chooses) (ask-posted r) s (or-else (refused long s) (by-book o)) (length (s .rules)) (posting r s) (Book (c .in-Err .refused)) _ equation;
+    }
 
 pub returns-in-Ok : need.returns-in-Ok
 returns-in-Ok g c =
@@ -46,7 +46,7 @@ returns-in-Ok g c =
     let t = posted-ok (s .rules) rules r o (c .in-Ok .number) (c .in-Ok .ensures tt) in
     let room = posted-room (g .B·RuleBook .sets) r (s .rules) rules (sym (t .2)) (g .B·RuleBook·met .few (c .post .last .self)) (g .B·RuleBook·met .lawful (c .post .last .self)) in
     let equation = post-done r o long s (c .in-rest .ensures tt) rules (c .in-Ok .number) (g .P·Policy .waiting (c .put .last .self)) (c .in-Ok .ensures tt) (c .put .ensures) in
-    record
-      { equation = equation
-      ; asked = call-carries (g .B·RuleBook .sets) (g .P·Policy .choice) (proper-sets (g .Kind·Window .kind) (g .Kind·Window·met .proper) (g .B·RuleBook .sets) (g .B·RuleBook·met .tied)) (g .P·Policy·met .chooses) (ask-posted r) s (or-else (refused long s) (by-book o)) (length (s .rules)) (posting r s) (Ok (c .in-Ok .number)) _ (λ _ a h. posted r a s (room .0) (room .1) h) equation
-      }
+    record {
+      equation = equation;
+      asked = call-carries (g .B·RuleBook .sets) (g .P·Policy .choice) (proper-sets (g .Kind·Window .kind) (g .Kind·Window·met .proper) (g .B·RuleBook .sets) (g .B·RuleBook·met .tied)) (g .P·Policy·met .chooses) (ask-posted r) s (or-else (refused long s) (by-book o)) (length (s .rules)) (posting r s) (Ok (c .in-Ok .number)) _ (λ _ a h. posted r a s (room .0) (room .1) h) equation;
+    }

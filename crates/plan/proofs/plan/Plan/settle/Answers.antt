@@ -24,12 +24,12 @@ returns g c =
     let after : State = view stands rules (g .P·Policy .waiting (c .settle-rows .last .policy)) (c .settle-rows .last .status) (c .settle-rows .last .rows) store in
     let r = c .settle-rows .result in
     let e = c .settle-rows .ensures .equation store in
-    record
-      { equation = e
-      ; rows = c .settle-rows .ensures .rows
-      ; store = refl
-      ; asked = settle-carries sets choice proper chooses before (length store) r after e
-      ; widest = settle-says sets choice proper chooses before (length store) r after e
-      ; bound = settle-bound sets choice proper chooses before (length store) r after e (g .B·RuleBook·met .few (plan .book)) (g .B·RuleBook·met .lawful (plan .book)) (λ o. all-kinds stands sets rows (λ row n. g .B·RuleBook·met .tied (stands row) .1 (g .Kind·Window·met .rows row n)) (fine (map stands rows) (length store) (eqb (length (map stands rows)) (plan .status .windows)) o .windows))
-      ; agrees = settle-agrees sets choice proper chooses before r after (settle-says sets choice proper chooses before (length store) r after e)
-      }
+    record {
+      equation = e;
+      rows = c .settle-rows .ensures .rows;
+      store = refl;
+      asked = settle-carries sets choice proper chooses before (length store) r after e;
+      widest = settle-says sets choice proper chooses before (length store) r after e;
+      bound = settle-bound sets choice proper chooses before (length store) r after e (g .B·RuleBook·met .few (plan .book)) (g .B·RuleBook·met .lawful (plan .book)) (λ o. all-kinds stands sets rows (λ row n. g .B·RuleBook·met .tied (stands row) .1 (g .Kind·Window·met .rows row n)) (fine (map stands rows) (length store) (eqb (length (map stands rows)) (plan .status .windows)) o .windows));
+      agrees = settle-agrees sets choice proper chooses before r after (settle-says sets choice proper chooses before (length store) r after e);
+    }

@@ -27,12 +27,12 @@ pub returns-in-Some : need.returns-in-Some
 returns-in-Some g c =
     let s : State = state-of (g .B·RuleBook .rules) (g .P·Policy .waiting) (g .Kind·Window .stands) (c .args .self .now) (c .args .board .now) in
     let board = refused (length (c .args .board .now .store .now)) s in
-    record
-      { equation = call-refused (or-else board (open-refusal (c .args .mark .number) s)) (c .in-Some .refused) s (record { answer = Ok Done; after = taking-back (c .args .mark .number) s }) (asked-first board (open-refusal (c .args .mark .number) s) (c .in-Some .refused) (c .in-Some .ensures tt))
-      ; rows = refl
-      ; store = refl
-      ; asked = refused-carries (g .B·RuleBook .sets) (g .P·Policy .choice) (proper-sets (g .Kind·Window .kind) (g .Kind·Window·met .proper) (g .B·RuleBook .sets) (g .B·RuleBook·met .tied)) (g .P·Policy·met .chooses) s
-      }
+    record {
+      equation = call-refused (or-else board (open-refusal (c .args .mark .number) s)) (c .in-Some .refused) s (record { answer = Ok Done; after = taking-back (c .args .mark .number) s }) (asked-first board (open-refusal (c .args .mark .number) s) (c .in-Some .refused) (c .in-Some .ensures tt));
+      rows = refl;
+      store = refl;
+      asked = refused-carries (g .B·RuleBook .sets) (g .P·Policy .choice) (proper-sets (g .Kind·Window .kind) (g .Kind·Window·met .proper) (g .B·RuleBook .sets) (g .B·RuleBook·met .tied)) (g .P·Policy·met .chooses) s;
+    }
 
 pub returns-in-rest-find : need.returns-in-rest-find
 returns-in-rest-find g c =
@@ -41,12 +41,12 @@ returns-in-rest-find g c =
     let plan = c .args .self .now in
     let m = c .args .mark .number in
     let ended : is-open m (s .marks) ≡ false = found-ended (g .Kind·Window .stands) (plan .status .slots) (plan .status .windows) (c .args .board .now .store .now) m (plan .status .depth) (sym (c .in-rest-find .ensures tt)) in
-    record
-      { equation = call-refused (or-else board (open-refusal (c .args .mark .number) s)) Ended s (record { answer = Ok Done; after = taking-back (c .args .mark .number) s }) (asked-next board (open-refusal m s) (Some Ended) (c .in-rest .ensures tt) (has-ended m s ended))
-      ; rows = refl
-      ; store = refl
-      ; asked = refused-carries (g .B·RuleBook .sets) (g .P·Policy .choice) (proper-sets (g .Kind·Window .kind) (g .Kind·Window·met .proper) (g .B·RuleBook .sets) (g .B·RuleBook·met .tied)) (g .P·Policy·met .chooses) s
-      }
+    record {
+      equation = call-refused (or-else board (open-refusal (c .args .mark .number) s)) Ended s (record { answer = Ok Done; after = taking-back (c .args .mark .number) s }) (asked-next board (open-refusal m s) (Some Ended) (c .in-rest .ensures tt) (has-ended m s ended));
+      rows = refl;
+      store = refl;
+      asked = refused-carries (g .B·RuleBook .sets) (g .P·Policy .choice) (proper-sets (g .Kind·Window .kind) (g .Kind·Window·met .proper) (g .B·RuleBook .sets) (g .B·RuleBook·met .tied)) (g .P·Policy·met .chooses) s;
+    }
 
 pub offset-self-k : need.offset-self-k
 offset-self-k g c =
@@ -110,9 +110,9 @@ returns g c =
     let marks = same-copies stands (c .load .ensures .store) (c .close .ensures .slots) (c .close .ensures .windows) (c .close .ensures .depth) in
     let same = same-state {b = getD (status .slots) k no-slot .impossible} rules waits refl table (c .close .ensures .windows) marks (c .close .ensures .handed) in
     let equation = call-done o s (record { answer = Ok Done; after = taking-back m s }) (record { answer = Ok Done; after = _ }) none (ap {B = Call Closing} (λ (t : State). record { answer = Ok Done; after = t }) (back-found stands (status .slots) (status .windows) store m s (status .depth) k found ∙ sym same)) in
-    record
-      { equation = equation
-      ; rows = tt
-      ; store = c .load .ensures .store
-      ; asked = call-carries (g .B·RuleBook .sets) (g .P·Policy .choice) (proper-sets (g .Kind·Window .kind) (g .Kind·Window·met .proper) (g .B·RuleBook .sets) (g .B·RuleBook·met .tied)) (g .P·Policy·met .chooses) (ask-back m) s o Done (taking-back m s) _ _ (λ _ a h. back m a s h) equation
-      }
+    record {
+      equation = equation;
+      rows = tt;
+      store = c .load .ensures .store;
+      asked = call-carries (g .B·RuleBook .sets) (g .P·Policy .choice) (proper-sets (g .Kind·Window .kind) (g .Kind·Window·met .proper) (g .B·RuleBook .sets) (g .B·RuleBook·met .tied)) (g .P·Policy·met .chooses) (ask-back m) s o Done (taking-back m s) _ _ (λ _ a h. back m a s h) equation;
+    }

@@ -28,7 +28,7 @@ returns c =
     let long′ : length (take (q .len) (q .rules)) ≡ q .len = length-take-le (q .len) (q .rules) (omega arith) in
     let pre = c .pre in
     let l : c .args .k < q .len = omega arith in
-    record
-      { value = sym (getD-take (q .len) (q .rules) (c .args .k) 0 l)
-      ; rest = taken-out (c .args .k) (q .len - 1) (q .len) (q .rules) (c .close-gap .last .rules) (omega arith) l (omega arith) (q .apart) (c .close-gap .ensures)
-      }
+    record {
+      value = sym (getD-take (q .len) (q .rules) (c .args .k) 0 l);
+      rest = taken-out (c .args .k) (q .len - 1) (q .len) (q .rules) (c .close-gap .last .rules) (omega arith) l (omega arith) (q .apart) (c .close-gap .ensures);
+    }
