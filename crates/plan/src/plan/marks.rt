@@ -42,9 +42,9 @@ impl<'a, W: Window> Board<'a, W> {
         ensures rows { λ _. ⌜ now (now (self .exit) .rows) ≡ take (length (now (now (self .entry) .rows))) (drop at (now (now (self .entry) .store))) ⌝ }
         ensures store { λ _. ⌜ now (now (self .exit) .store) ≡ now (now (self .entry) .store) ⌝ }
     {
-        for i in 0..self.rows.len() {
-            let row = self.store[at + i];
-            self.rows[i] = row;
+        for k in 0..self.rows.len() {
+            let row = self.store[at + k];
+            self.rows[k] = row;
         }
     }
 }

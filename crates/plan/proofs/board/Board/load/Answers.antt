@@ -6,25 +6,25 @@ use lib.ListN.{length, getD, set, take, drop}
 use Rattle.plan.proofs.StoreLaws.{loaded-more, loaded-all, loaded-long}
 use Rattle.plan.proofs.board.Board.load.Needs as need
 
-pub index-self-i : need.index-self-i
-index-self-i g c =
+pub index-self-k : need.index-self-k
+index-self-k g c =
     let rows = c .args .self .now .rows .now in
     let store = c .args .self .now .store .now in
-    let l = c .loop-i-test .taken in
-    let e : length (c .loop-i .self .rows .now) ≡ length rows = ap length (c .loop-i .inv .1) ∙ loaded-long store rows (c .args .at) (c .loop-i .i) (omega arith) (c .pre) in
+    let l = c .loop-k-test .taken in
+    let e : length (c .loop-k .self .rows .now) ≡ length rows = ap length (c .loop-k .inv .1) ∙ loaded-long store rows (c .args .at) (c .loop-k .k) (omega arith) (c .pre) in
     omega arith
 
-pub loop-i-again : need.loop-i-again
-loop-i-again g c =
+pub loop-k-again : need.loop-k-again
+loop-k-again g c =
     let rows = c .args .self .now .rows .now in
     let store = c .args .self .now .store .now in
     let at = c .args .at in
-    let i = c .loop-i .i in
+    let i = c .loop-k .k in
     let d = c .index-self-at .result in
-    (c .loop-i .inv .0, ap (λ (t : List (g .W·Row .Denot)). set t i (getD (c .loop-i .self .store .now) (at + i) d)) (c .loop-i .inv .1) ∙ ap (λ (t : List (g .W·Row .Denot)). set (take i (drop at store) ++ drop i rows) i (getD t (at + i) d)) (c .loop-i .inv .0) ∙ loaded-more store rows at i d (c .loop-i-test .taken) (c .pre))
+    (c .loop-k .inv .0, ap (λ (t : List (g .W·Row .Denot)). set t i (getD (c .loop-k .self .store .now) (at + i) d)) (c .loop-k .inv .1) ∙ ap (λ (t : List (g .W·Row .Denot)). set (take i (drop at store) ++ drop i rows) i (getD t (at + i) d)) (c .loop-k .inv .0) ∙ loaded-more store rows at i d (c .loop-k-test .taken) (c .pre))
 
 pub returns : need.returns
 returns g c =
     let rows = c .args .self .now .rows .now in
     let store = c .args .self .now .store .now in
-    record { rows = c .loop-i .inv .1 ∙ loaded-all store rows (c .args .at) (c .loop-i .i) (c .loop-i-test .left) (c .loop-i .kept .i-end); store = c .loop-i .inv .0 }
+    record { rows = c .loop-k .inv .1 ∙ loaded-all store rows (c .args .at) (c .loop-k .k) (c .loop-k-test .left) (c .loop-k .kept .k-end); store = c .loop-k .inv .0 }

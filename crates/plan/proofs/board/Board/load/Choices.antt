@@ -4,5 +4,5 @@ use denote.Ref.{now}
 use lib.ListN.{take, drop}
 use Rattle.plan.proofs.board.Board.load.Given as given
 
-abbrev pub Inv-loop-i : given.InvT-loop-i
-Inv-loop-i g l = (now (l .self .store) ≡ now (l .entry .self .store)) × (now (l .self .rows) ≡ take (l .i) (drop (l .at) (now (l .entry .self .store))) ++ drop (l .i) (now (l .entry .self .rows)))
+abbrev pub Inv-loop-k : given.InvT-loop-k
+Inv-loop-k g l = (now (l .self .store) ≡ now (l .entry .self .store)) × (now (l .self .rows) ≡ take (l .k) (drop (l .at) (now (l .entry .self .store))) ++ drop (l .k) (now (l .entry .self .rows)))
