@@ -1,0 +1,15 @@
+mod ProperSets
+mod AnyLaws
+mod TableLaws
+mod RuleLaws
+mod Goodness
+mod SettlingLaws
+mod CallLaws
+mod BoardLaws
+mod RunLaws
+mod StoreLaws
+mod MarkLaws
+mod CallExits
+mod Theorem
+mod PostLaws
+mod ProbeLaws

@@ -1,0 +1,12 @@
+pub mod Numbers
+pub mod Steady
+pub mod States
+pub mod Settling
+pub mod Calls
+pub mod Refusals
+pub mod Asking
+pub mod Theorem
+pub mod Views
+pub mod Rows
+pub mod Plans
+pub mod Probe

@@ -1,0 +1,3 @@
+pub mod WaitingLaws
+pub mod DistinctLaws
+mod GapLaws
