@@ -26,7 +26,7 @@ pub struct NewWindow<W> {
 // New windows, at most one for each window.
 #[derive(Drop)]
 pub struct NewWindows<W> {
-    items: [NewWindow<W>; 8],
+    items: [NewWindow<W>; MOST],
     len: usize,
     ghost whole: { length items ≡ 8 },
     ghost few: { len ≤ 8 },
