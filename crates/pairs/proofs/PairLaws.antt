@@ -2,19 +2,18 @@
 use mathlib.Core.Path.{_≡_, refl, sym, ap, ap₂, subst, _∙_}
 use mathlib.Core.List.{List, [], _∷_}
 use mathlib.Core.Logic.{_⊎_, inl, inr}
-use mathlib.Core.Bool.{Bool, true, false, not, cond, _&&_, _||_}
-use Prim.Native.Nat.{ℕ, zero, suc, _+_, _≤_, _<_, max, min}
+use mathlib.Core.Bool.{Bool, true, false, not, _&&_, _||_}
+use Prim.Native.Nat.{ℕ, suc, _≤_, _<_, max, min}
 use native.Mathlib.Omega.{arith}
 use lib.Dec.{eqb, ltb}
 use lib.ListN.{length}
 use lib.IntN.{ℤ}
-use Rattle.std.specs.declared.option.Option.{Option}
-use Rattle.std.specs.declared.option.Option.the-variants.{Some, None}
+use Rattle.std.specs.declared.option.Option.the-variants.{None}
 use Rattle.std.proofs.shelf.Ways.{tells, eqb-tells}
 use Rattle.windows.specs.Sets.{eqZ, has, In, Within, Rising, meet}
-use Rattle.windows.specs.Kinds.{Kind, Of, Proper, all-but}
+use Rattle.windows.specs.Kinds.{Kind, Of, Proper}
 use Rattle.windows.proofs.SetLaws.{tests, never, in-cons, in-here, within-both}
-use Rattle.windows.proofs.KindLaws.{in-meet, meet-in, meet-of, but-within, but-kind, but-mono, but-keeps, meet-either}
+use Rattle.windows.proofs.KindLaws.{in-meet, meet-in, meet-of, but-within, but-kind, but-mono, but-keeps}
 use Rattle.rulebook.specs.Tables.{Table, Placing, window, place, filled, Inside, Places, Every}
 use Rattle.rulebook.specs.Rules.{Agree, Lawful}
 use Rattle.rulebook.specs.Answers.{outcome}

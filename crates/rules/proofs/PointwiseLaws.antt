@@ -1,25 +1,22 @@
 -- The laws of a rule that is given window by window.
 use mathlib.Core.Path.{_≡_, refl, sym, ap, subst, subst₂, _∙_}
-use mathlib.Core.List.{List, [], _∷_, map}
+use mathlib.Core.List.{List, [], _∷_}
 use mathlib.Core.Logic.{_⊎_, inl, inr}
-use mathlib.Core.Bool.{Bool, true, false, not, cond, _&&_, _||_}
-use Prim.Native.Nat.{ℕ, zero, suc, _+_, _≤_, _<_}
+use mathlib.Core.Bool.{Bool, true, false}
+use Prim.Native.Nat.{ℕ, zero, suc, _≤_, _<_}
 use native.Mathlib.Omega.{arith}
 use lib.Dec.{ltb, leb, eqb}
-use lib.ListN.{length, getD, set}
-use lib.IntN.{ℤ, pos, negsuc, _+ℤ_, _-ℤ_}
-use lib.Signed.{leZ, ltZ, _<ℤ_, _≤ℤ_}
-use Rattle.std.specs.Iters.{counting}
+use lib.ListN.{length, set}
+use lib.IntN.{ℤ}
 use Rattle.std.proofs.shelf.Counted.{length-map-counting, getD-map-counting}
 use Rattle.std.specs.shelf.Lists.{All}
 use Rattle.std.proofs.shelf.Ways.{tells, leb-tells, eqb-tells}
 use Rattle.std.proofs.shelf.Lists.{getD-past, getD-set-same, getD-set-other, length-set, ext-getD}
-use Rattle.std.proofs.shelf.Signed.{ints}
-use Rattle.windows.specs.Sets.{has, In, Within, Rising, hull}
+use Rattle.windows.specs.Sets.{has, In, Within}
 use Rattle.rulebook.specs.Tables.{Table, Placing, window, place, Inside, Places, Every}
-use Rattle.rulebook.specs.Rules.{Rule, Outcome, narrowed, emptied, Agree, Alike, Lawful}
+use Rattle.rulebook.specs.Rules.{Outcome, narrowed, emptied, Agree, Alike, Lawful}
 use Rattle.rules.specs.Pointwise.{empty-at, judged, make-all, narrow-by, Pointwise, rule-of, Entry, has-entry, replaced}
-use Rattle.windows.proofs.SetLaws.{never, within-some, some-from-in, within-hull, hull-mono, hull-again, rising-hull, hull-none}
+use Rattle.windows.proofs.SetLaws.{never, within-some}
 
 -- ---- what a judgement tells
 -- the windows of N before k have numbers

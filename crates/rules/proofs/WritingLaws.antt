@@ -17,7 +17,7 @@ use Rattle.std.proofs.shelf.Ways.{tells, eqb-tells}
 use Rattle.windows.specs.Sets.{same-set}
 use Rattle.windows.proofs.SpanLaws.{same-set-self, same-set-is}
 use Rattle.rulebook.specs.Tables.{Table, window, differs, filled, all-filled}
-use Rattle.rulebook.specs.Rules.{Outcome, narrowed, emptied}
+use Rattle.rulebook.specs.Rules.{narrowed, emptied}
 use Rattle.rulebook.specs.Answers.{member, outcome, Tells}
 use Rattle.rulebook.specs.declared.answer.Narrowing.the-variants.{Changed, Emptied}
 use Rattle.rulebook.specs.declared.set.WindowSet.{WindowSet}

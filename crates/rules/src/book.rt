@@ -17,7 +17,7 @@ const FULL: usize = 64;
 
 // The rules of a book are in its first slots.
 pub struct Book<R> {
-    slots: [Option<R>; 64],
+    slots: [Option<R>; FULL],
     len: usize,
     ghost whole: { length slots ≡ 64 },
     ghost few: { len ≤ 64 },
@@ -31,7 +31,7 @@ impl<R: BookRule> Book<R> {
         ensures { λ r. ⌜ slot-rules (R·BookRule .rule) (r .slots) (r .len) ≡ [] ⌝ }
     {
         Book {
-            slots: [None; 64],
+            slots: [None; FULL],
             len: 0,
         }
     }

@@ -1,9 +1,9 @@
 // The new windows that a rule makes, and the one way in which they are written into the rows.
 ghost use mathlib.Core.Path.{_≡_};
-ghost use mathlib.Core.List.{List, [], map};
-ghost use mathlib.Core.Bool.{Bool, true, false, not};
+ghost use mathlib.Core.List.{[], map};
+ghost use mathlib.Core.Bool.{true, false};
 ghost use Prim.Native.Nat.{ℕ, _<_, _≤_};
-ghost use lib.ListN.{length, getD, set};
+ghost use lib.ListN.{length, set};
 ghost use Rattle.rulebook.specs.Tables.{differs, all-filled};
 ghost use Rattle.rulebook.specs.Answers.{member, Tells, Rows-kept};
 ghost use Rattle.rulebook.specs.declared.answer.Narrowing.the-variants.{Changed};
@@ -26,7 +26,7 @@ pub struct NewWindow<W> {
 // New windows, at most one for each window.
 #[derive(Drop)]
 pub struct NewWindows<W> {
-    items: [NewWindow<W>; 8],
+    items: [NewWindow<W>; MOST],
     len: usize,
     ghost whole: { length items ≡ 8 },
     ghost few: { len ≤ 8 },

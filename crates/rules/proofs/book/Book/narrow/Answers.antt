@@ -1,4 +1,4 @@
-use mathlib.Core.Path.{refl, sym, subst}
+use mathlib.Core.Path.{refl, subst}
 use mathlib.Core.List.{map}
 use Rattle.rulebook.specs.Rules.{Rule}
 use Rattle.rulebook.specs.Answers.{outcome, Tells}

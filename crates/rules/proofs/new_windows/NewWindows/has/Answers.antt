@@ -1,4 +1,4 @@
-use mathlib.Core.Path.{_≡_, sym, ap, _∙_}
+use mathlib.Core.Path.{sym, ap, _∙_}
 use native.Mathlib.Omega.{arith}
 use Rattle.rules.specs.Pointwise.{has-entry}
 use Rattle.rules.proofs.WritingLaws.{listed-next, listed-none, has-here, has-later}

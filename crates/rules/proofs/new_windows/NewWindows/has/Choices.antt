@@ -1,8 +1,7 @@
 use mathlib.Core.Path.{_≡_}
-use mathlib.Core.List.{map}
-use lib.ListN.{drop, take}
+use lib.ListN.{drop}
 use Rattle.rules.specs.Pointwise.{has-entry}
-use Rattle.rules.specs.Writing.{entry, listed}
+use Rattle.rules.specs.Writing.{listed}
 use Rattle.rules.proofs.new_windows.NewWindows.has.Given as given
 
 -- what is left decides
