@@ -111,3 +111,10 @@ all-filled-from sets (s ∷ T) some k = and-from (filled s) (all-filled T) (fill
 -- a row's window, read from the table
 pub read-row : {Row W : Type 0} (stands : Row → List ℤ) (numbers : W → List ℤ) (rows : List Row) (j : ℕ) (row : Row) (o : Option W) → j < length rows → row ≡ getD rows j row → Cases o (stands row ≡ []) (λ w. numbers w ≡ stands row) → Cases o (window (map stands rows) j ≡ []) (λ w. numbers w ≡ window (map stands rows) j)
 read-row {Row} {W} stands numbers rows j row o l e = subst (λ (s : List ℤ). Cases o (s ≡ []) (λ w. numbers w ≡ s)) (ap stands e ∙ sym (getD-map stands rows j row [] l))
+
+-- one loan after the other: the rows and the store keep their names
+pub lends-both : {X : Type 0} {a b c a′ b′ c′ : X} → (b ≡ a) × (b′ ≡ a′) → (c ≡ b) × (c′ ≡ b′) → (c ≡ a) × (c′ ≡ a′)
+lends-both p q = (q .0 ∙ p .0, q .1 ∙ p .1)
+
+pub lends-three : {X : Type 0} {a b c d a′ b′ c′ d′ : X} → (b ≡ a) × (b′ ≡ a′) → (c ≡ b) × (c′ ≡ b′) → (d ≡ c) × (d′ ≡ c′) → (d ≡ a) × (d′ ≡ a′)
+lends-three p q r = lends-both (lends-both p q) r

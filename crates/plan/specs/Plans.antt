@@ -1,8 +1,9 @@
 -- The state of a plan with its board.
+use mathlib.Core.Path.{_≡_}
 use mathlib.Core.List.{List, map}
 use Prim.Native.Nat.{ℕ}
 use lib.IntN.{ℤ}
-use denote.Ref.{now}
+use denote.Ref.{now, name}
 use Rattle.std.specs.declared.option.Option.{Option}
 use Rattle.std.specs.declared.option.Option.the-variants.{Some, None}
 use Rattle.rulebook.specs.Tables.{Table}
@@ -25,3 +26,7 @@ state-of rules waiting stands plan board = view stands (rules (plan .book)) (wai
 abbrev pub If-refused : Option PlanRefusal → Type 0 → Type 0
 If-refused (Some f) P = P
 If-refused None P = Unit {0}
+
+-- the board lends the rows and the store that it lent before
+abbrev pub Lends-on : {W Row : Type 0} → Board W Row → Board W Row → Type 0
+Lends-on old new = (name (new .rows) ≡ name (old .rows)) × (name (new .store) ≡ name (old .store))

@@ -7,7 +7,7 @@ ghost use Rattle.plan.specs.Asking.{ask-made, ask-same, ask-posted, ask-cut};
 ghost use Rattle.plan.specs.Refusals.{make-call, settle-call, post-call, cut-call, show-call, told};
 ghost use Rattle.plan.specs.Theorem.{Carries, if-ok, Begins, Says-all, Within-steps, Agrees, Shows-all};
 ghost use Rattle.plan.specs.Views.{Untouched};
-ghost use Rattle.plan.specs.Plans.{table, state-of, If-refused};
+ghost use Rattle.plan.specs.Plans.{table, state-of, If-refused, Lends-on};
 use crate::answer::Cutting;
 use crate::answer::PlanRefusal;
 use crate::answer::Verdict;
@@ -95,6 +95,7 @@ impl<B: RuleBook, P: Policy> Plan<B, P> {
             ≡ record { answer = r; after = see (now (self .exit)) (now (board .exit)) }) ⌝ }
         ensures rows { λ r. ⌜ Untouched r (now (now (board .entry) .rows)) (now (now (board .exit) .rows)) ⌝ }
         ensures store { λ r. ⌜ now (now (board .exit) .store) ≡ now (now (board .entry) .store) ⌝ }
+        ensures lent { λ _. ⌜ Lends-on (now (board .entry)) (now (board .exit)) ⌝ }
         ensures asked { λ r. ⌜ (let see = state-of (B·RuleBook .rules) (P·Policy .waiting) (Kind·Window .stands) in
             Carries (B·RuleBook .sets) (P·Policy .choice) (if-ok r (ask-cut j (Kind·Window .numbers window))) (see (now (self .entry)) (now (board .entry))) (see (now (self .exit)) (now (board .exit)))) ⌝ }
     {
@@ -117,6 +118,7 @@ impl<B: RuleBook, P: Policy> Plan<B, P> {
             ≡ record { answer = r; after = see (now (self .exit)) (now (board .exit)) }) ⌝ }
         ensures rows { λ r. ⌜ Untouched r (now (now (board .entry) .rows)) (now (now (board .exit) .rows)) ⌝ }
         ensures store { λ r. ⌜ now (now (board .exit) .store) ≡ now (now (board .entry) .store) ⌝ }
+        ensures lent { λ _. ⌜ Lends-on (now (board .entry)) (now (board .exit)) ⌝ }
         ensures asked { λ r. ⌜ (let see = state-of (B·RuleBook .rules) (P·Policy .waiting) (Kind·Window .stands) in
             Carries (B·RuleBook .sets) (P·Policy .choice) ask-same (see (now (self .entry)) (now (board .entry))) (see (now (self .exit)) (now (board .exit)))) ⌝ }
         ensures widest { λ r. ⌜ (let see = state-of (B·RuleBook .rules) (P·Policy .waiting) (Kind·Window .stands) in

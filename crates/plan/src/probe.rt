@@ -5,7 +5,7 @@ ghost use lib.ListN.{length};
 ghost use Rattle.plan.specs.Refusals.{mark-call};
 ghost use Rattle.plan.specs.Views.{Untouched, store-after};
 ghost use Rattle.plan.specs.Probe.{try-call};
-ghost use Rattle.plan.specs.Plans.{state-of};
+ghost use Rattle.plan.specs.Plans.{state-of, Lends-on};
 use crate::answer::PlanRefusal;
 use crate::answer::Verdict;
 use crate::board::Board;
@@ -27,6 +27,7 @@ pub fn try_cut<B: RuleBook, P: Policy>(
         Untouched (mark-call (length (now (now (board .entry) .store))) s .answer) (now (now (board .entry) .rows)) (now (now (board .exit) .rows))) ⌝ }
     ensures store { λ r. ⌜ (let s = state-of (B·RuleBook .rules) (P·Policy .waiting) (Kind·Window .stands) (now (plan .entry)) (now (board .entry)) in
         now (now (board .exit) .store) ≡ store-after (mark-call (length (now (now (board .entry) .store))) s .answer) (now (now (board .entry) .store)) (length (s .marks) * s .windows) (now (now (board .entry) .rows))) ⌝ }
+    ensures lent { λ _. ⌜ Lends-on (now (board .entry)) (now (board .exit)) ⌝ }
 {
     let mark = match plan.mark(board) {
         Ok(mark) => mark,

@@ -1,6 +1,7 @@
 // The states of a sheet, as types of plain numbers.
 ghost use mathlib.Core.Path.{_≡_};
 ghost use Rattle.sheet.specs.Reading.{held, roomy};
+
 mod reading;
 mod settling;
 

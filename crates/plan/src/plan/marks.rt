@@ -6,7 +6,7 @@ ghost use Rattle.plan.specs.Asking.{ask-marked, ask-kept, ask-back};
 ghost use Rattle.plan.specs.Refusals.{mark-call, keep-call, back-call};
 ghost use Rattle.plan.specs.Theorem.{Carries, if-ok};
 ghost use Rattle.plan.specs.Views.{found, Pushed, stored, store-after, Untouched};
-ghost use Rattle.plan.specs.Plans.{state-of};
+ghost use Rattle.plan.specs.Plans.{state-of, Lends-on};
 use crate::answer::Closing;
 use crate::answer::PlanRefusal;
 use crate::board::Board;
@@ -29,6 +29,7 @@ impl<'a, W: Window> Board<'a, W> {
         requires { ⌜ at + length (now (now self .rows)) ≤ length (now (now self .store)) ⌝ }
         ensures rows { λ _. ⌜ now (now (self .exit) .rows) ≡ now (now (self .entry) .rows) ⌝ }
         ensures store { λ _. ⌜ now (now (self .exit) .store) ≡ stored (now (now (self .entry) .store)) at (now (now (self .entry) .rows)) ⌝ }
+        ensures lent { λ _. ⌜ Lends-on (now (self .entry)) (now (self .exit)) ⌝ }
     {
         for i in 0..self.rows.len() {
             let row = self.rows[i];
@@ -41,6 +42,7 @@ impl<'a, W: Window> Board<'a, W> {
         requires { ⌜ at + length (now (now self .rows)) ≤ length (now (now self .store)) ⌝ }
         ensures rows { λ _. ⌜ now (now (self .exit) .rows) ≡ take (length (now (now (self .entry) .rows))) (drop at (now (now (self .entry) .store))) ⌝ }
         ensures store { λ _. ⌜ now (now (self .exit) .store) ≡ now (now (self .entry) .store) ⌝ }
+        ensures lent { λ _. ⌜ Lends-on (now (self .entry)) (now (self .exit)) ⌝ }
     {
         for k in 0..self.rows.len() {
             let row = self.store[at + k];
@@ -102,6 +104,7 @@ impl<B: RuleBook, P: Policy> Plan<B, P> {
         ensures rows { λ r. ⌜ now (now (board .exit) .rows) ≡ now (now (board .entry) .rows) ⌝ }
         ensures store { λ r. ⌜ (let s = state-of (B·RuleBook .rules) (P·Policy .waiting) (Kind·Window .stands) (now (self .entry)) (now (board .entry)) in
             now (now (board .exit) .store) ≡ store-after r (now (now (board .entry) .store)) (length (s .marks) * s .windows) (now (now (board .entry) .rows))) ⌝ }
+        ensures lent { λ _. ⌜ Lends-on (now (board .entry)) (now (board .exit)) ⌝ }
         ensures asked { λ r. ⌜ (let see = state-of (B·RuleBook .rules) (P·Policy .waiting) (Kind·Window .stands) in
             Carries (B·RuleBook .sets) (P·Policy .choice) (if-ok r (ask-marked (now (self .entry) .status .handed))) (see (now (self .entry)) (now (board .entry))) (see (now (self .exit)) (now (board .exit)))) ⌝ }
     {
@@ -157,6 +160,7 @@ impl<B: RuleBook, P: Policy> Plan<B, P> {
             ≡ record { answer = r; after = see (now (self .exit)) (now (board .exit)) }) ⌝ }
         ensures rows { λ r. ⌜ Untouched r (now (now (board .entry) .rows)) (now (now (board .exit) .rows)) ⌝ }
         ensures store { λ r. ⌜ now (now (board .exit) .store) ≡ now (now (board .entry) .store) ⌝ }
+        ensures lent { λ _. ⌜ Lends-on (now (board .entry)) (now (board .exit)) ⌝ }
         ensures asked { λ r. ⌜ (let see = state-of (B·RuleBook .rules) (P·Policy .waiting) (Kind·Window .stands) in
             Carries (B·RuleBook .sets) (P·Policy .choice) (if-ok r (ask-back (mark .number))) (see (now (self .entry)) (now (board .entry))) (see (now (self .exit)) (now (board .exit)))) ⌝ }
     {

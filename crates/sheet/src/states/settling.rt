@@ -55,7 +55,11 @@ fn settle_board(book: DayBook, board: &mut Board<Span>) -> Result<Verdict, PlanR
 }
 
 // The same over rows and a store.
-fn settle_slices(book: DayBook, rows: &mut [SpanRow], store: &mut [SpanRow]) -> Result<Verdict, PlanRefusal>
+fn settle_slices(
+    book: DayBook,
+    rows: &mut [SpanRow],
+    store: &mut [SpanRow],
+) -> Result<Verdict, PlanRefusal>
     ensures equation { λ r. ⌜ ran (day-rules book) (map span-numbers (now (rows .entry))) (length (now (store .entry))) ≡ record { answer = r; after = map span-numbers (now (rows .exit)) } ⌝ }
     ensures rows { λ r. ⌜ Untouched r (now (rows .entry)) (now (rows .exit)) ⌝ }
     ensures store { λ _. ⌜ now (store .exit) ≡ now (store .entry) ⌝ }
@@ -65,7 +69,11 @@ fn settle_slices(book: DayBook, rows: &mut [SpanRow], store: &mut [SpanRow]) -> 
 }
 
 // The same, once the rows were copied to the store's front.
-fn settle_rows(book: DayBook, rows: &mut [SpanRow], store: &mut [SpanRow]) -> Result<Verdict, PlanRefusal>
+fn settle_rows(
+    book: DayBook,
+    rows: &mut [SpanRow],
+    store: &mut [SpanRow],
+) -> Result<Verdict, PlanRefusal>
     ensures equation { λ r. ⌜ ran (day-rules book) (map span-numbers (now (rows .entry))) (length (now (store .entry))) ≡ record { answer = r; after = map span-numbers (now (rows .exit)) } ⌝ }
     ensures rows { λ r. ⌜ Untouched r (now (rows .entry)) (now (rows .exit)) ⌝ }
     ensures store { λ r. ⌜ now (store .exit) ≡ given-to r (now (store .entry)) (now (rows .entry)) ⌝ }

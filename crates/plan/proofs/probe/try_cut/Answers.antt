@@ -7,6 +7,7 @@ use Rattle.plan.specs.Plans.{state-of}
 use Rattle.plan.specs.Probe.{try-marked}
 use Rattle.plan.specs.declared.plan.marks.Mark.{Mark}
 use Prim.Native.Nat.{_*_}
+use Rattle.plan.proofs.BoardLaws.{lends-both, lends-three}
 use Rattle.plan.proofs.ProbeLaws.{mark-long, try-refused, try-settled, mark-rows, mark-store}
 use Rattle.plan.proofs.probe.try_cut.Needs as need
 
@@ -25,7 +26,7 @@ returns-in-Ok-take-back g c =
     let t : State = state-of (g .B·RuleBook .rules) (g .P·Policy .waiting) (g .Kind·Window .stands) (c .take-back .last .self) (c .take-back .last .board) in
     let rows = mark-rows long s s₁ (Ok (c .in-Ok .mark)) (board .rows .now) (c .take-back .last .board .rows .now) (c .in-Ok .ensures tt .equation) tt in
     let store = mark-store long s s₁ (Ok (c .in-Ok .mark)) (board .store .now) (c .take-back .last .board .store .now) (board .rows .now) (length (s .marks) * s .windows) (c .in-Ok .ensures tt .equation) (c .take-back .ensures .store ∙ c .cut .ensures .store ∙ c .in-Ok .ensures tt .store) in
-    record { rows = rows; store = store; equation = try-refused (g .P·Policy .choice) (c .args .j) window long s s₁ (c .in-Ok .mark) (c .in-Ok .ensures tt .equation) l₁ e₁ l₂ e₂ (c .in-Err-cut .refused) u t (Ok (c .in-Ok-take-back .field-0)) (c .in-Err-cut .ensures tt .equation) (c .in-Ok-take-back .ensures tt .equation) }
+    record { rows = rows; store = store; lent = lends-three (c .in-Ok .ensures tt .lent) (c .cut .ensures .lent) (c .take-back .ensures .lent); equation = try-refused (g .P·Policy .choice) (c .args .j) window long s s₁ (c .in-Ok .mark) (c .in-Ok .ensures tt .equation) l₁ e₁ l₂ e₂ (c .in-Err-cut .refused) u t (Ok (c .in-Ok-take-back .field-0)) (c .in-Err-cut .ensures tt .equation) (c .in-Ok-take-back .ensures tt .equation) }
 
 pub returns-in-Err-take-back : need.returns-in-Err-take-back
 returns-in-Err-take-back g c =
@@ -42,7 +43,7 @@ returns-in-Err-take-back g c =
     let t : State = state-of (g .B·RuleBook .rules) (g .P·Policy .waiting) (g .Kind·Window .stands) (c .take-back .last .self) (c .take-back .last .board) in
     let rows = mark-rows long s s₁ (Ok (c .in-Ok .mark)) (board .rows .now) (c .take-back .last .board .rows .now) (c .in-Ok .ensures tt .equation) tt in
     let store = mark-store long s s₁ (Ok (c .in-Ok .mark)) (board .store .now) (c .take-back .last .board .store .now) (board .rows .now) (length (s .marks) * s .windows) (c .in-Ok .ensures tt .equation) (c .take-back .ensures .store ∙ c .cut .ensures .store ∙ c .in-Ok .ensures tt .store) in
-    record { rows = rows; store = store; equation = try-refused (g .P·Policy .choice) (c .args .j) window long s s₁ (c .in-Ok .mark) (c .in-Ok .ensures tt .equation) l₁ e₁ l₂ e₂ (c .in-Err-cut .refused) u t (Err (c .in-Err-take-back .ended)) (c .in-Err-cut .ensures tt .equation) (c .in-Err-take-back .ensures tt .equation) }
+    record { rows = rows; store = store; lent = lends-three (c .in-Ok .ensures tt .lent) (c .cut .ensures .lent) (c .take-back .ensures .lent); equation = try-refused (g .P·Policy .choice) (c .args .j) window long s s₁ (c .in-Ok .mark) (c .in-Ok .ensures tt .equation) l₁ e₁ l₂ e₂ (c .in-Err-cut .refused) u t (Err (c .in-Err-take-back .ended)) (c .in-Err-cut .ensures tt .equation) (c .in-Err-take-back .ensures tt .equation) }
 
 pub returns-in-Ok-take-back-2 : need.returns-in-Ok-take-back-2
 returns-in-Ok-take-back-2 g c =
@@ -62,7 +63,7 @@ returns-in-Ok-take-back-2 g c =
     let store = mark-store long s s₁ (Ok (c .in-Ok .mark)) (board .store .now) (c .take-back-2 .last .board .store .now) (board .rows .now) (length (s .marks) * s .windows) (c .in-Ok .ensures tt .equation) (c .take-back-2 .ensures .store ∙ c .settle-verdict .ensures .store ∙ c .cut .ensures .store ∙ c .in-Ok .ensures tt .store) in
     let l₃ = length (c .settle-verdict .last .board .store .now) in
     let e₃ : l₃ ≡ l₁ = ap length (c .settle-verdict .ensures .store ∙ c .cut .ensures .store) in
-    record { rows = rows; store = store; equation = try-settled (g .P·Policy .choice) (c .args .j) window long s s₁ (c .in-Ok .mark) (c .in-Ok .ensures tt .equation) l₁ e₁ l₂ l₃ e₂ e₃ (c .in-rest .field-0) u v t (c .settle-verdict .result) (Ok (c .in-Ok-take-back-2 .field-0)) (c .in-rest .ensures tt .equation) (c .settle-verdict .ensures .equation) (c .in-Ok-take-back-2 .ensures tt .equation) }
+    record { rows = rows; store = store; lent = lends-three (c .in-Ok .ensures tt .lent) (c .cut .ensures .lent) (lends-both (c .settle-verdict .ensures .lent) (c .take-back-2 .ensures .lent)); equation = try-settled (g .P·Policy .choice) (c .args .j) window long s s₁ (c .in-Ok .mark) (c .in-Ok .ensures tt .equation) l₁ e₁ l₂ l₃ e₂ e₃ (c .in-rest .field-0) u v t (c .settle-verdict .result) (Ok (c .in-Ok-take-back-2 .field-0)) (c .in-rest .ensures tt .equation) (c .settle-verdict .ensures .equation) (c .in-Ok-take-back-2 .ensures tt .equation) }
 
 pub returns-in-Err-take-back-2 : need.returns-in-Err-take-back-2
 returns-in-Err-take-back-2 g c =
@@ -82,7 +83,7 @@ returns-in-Err-take-back-2 g c =
     let store = mark-store long s s₁ (Ok (c .in-Ok .mark)) (board .store .now) (c .take-back-2 .last .board .store .now) (board .rows .now) (length (s .marks) * s .windows) (c .in-Ok .ensures tt .equation) (c .take-back-2 .ensures .store ∙ c .settle-verdict .ensures .store ∙ c .cut .ensures .store ∙ c .in-Ok .ensures tt .store) in
     let l₃ = length (c .settle-verdict .last .board .store .now) in
     let e₃ : l₃ ≡ l₁ = ap length (c .settle-verdict .ensures .store ∙ c .cut .ensures .store) in
-    record { rows = rows; store = store; equation = try-settled (g .P·Policy .choice) (c .args .j) window long s s₁ (c .in-Ok .mark) (c .in-Ok .ensures tt .equation) l₁ e₁ l₂ l₃ e₂ e₃ (c .in-rest .field-0) u v t (c .settle-verdict .result) (Err (c .in-Err-take-back-2 .ended)) (c .in-rest .ensures tt .equation) (c .settle-verdict .ensures .equation) (c .in-Err-take-back-2 .ensures tt .equation) }
+    record { rows = rows; store = store; lent = lends-three (c .in-Ok .ensures tt .lent) (c .cut .ensures .lent) (lends-both (c .settle-verdict .ensures .lent) (c .take-back-2 .ensures .lent)); equation = try-settled (g .P·Policy .choice) (c .args .j) window long s s₁ (c .in-Ok .mark) (c .in-Ok .ensures tt .equation) l₁ e₁ l₂ l₃ e₂ e₃ (c .in-rest .field-0) u v t (c .settle-verdict .result) (Err (c .in-Err-take-back-2 .ended)) (c .in-rest .ensures tt .equation) (c .settle-verdict .ensures .equation) (c .in-Err-take-back-2 .ensures tt .equation) }
 
 pub returns-in-Err : need.returns-in-Err
 returns-in-Err g c =
@@ -94,6 +95,7 @@ returns-in-Err g c =
     let marks = c .in-Err .ensures tt .equation in
     record {
       equation = ap (λ (k : Call Mark). try-marked (g .P·Policy .choice) (c .args .j) (g .Kind·Window .numbers (c .args .window)) long (k .answer) (k .after)) marks;
+      lent = c .in-Err .ensures tt .lent;
       rows = mark-rows long s t (Err f) (board .rows .now) (c .mark .last .board .rows .now) marks (c .mark .ensures .rows);
       store = mark-store long s t (Err f) (board .store .now) (c .mark .last .board .store .now) (board .rows .now) (length (s .marks) * s .windows) marks (c .in-Err .ensures tt .store);
     }

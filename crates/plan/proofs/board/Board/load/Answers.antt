@@ -21,10 +21,10 @@ loop-k-again g c =
     let at = c .args .at in
     let i = c .loop-k .k in
     let d = c .index-self-at .result in
-    (c .loop-k .inv .0, ap (λ (t : List (g .W·Row .Denot)). set t i (getD (c .loop-k .self .store .now) (at + i) d)) (c .loop-k .inv .1) ∙ ap (λ (t : List (g .W·Row .Denot)). set (take i (drop at store) ++ drop i rows) i (getD t (at + i) d)) (c .loop-k .inv .0) ∙ loaded-more store rows at i d (c .loop-k-test .taken) (c .pre))
+    (c .loop-k .inv .0, ap (λ (t : List (g .W·Row .Denot)). set t i (getD (c .loop-k .self .store .now) (at + i) d)) (c .loop-k .inv .1) ∙ ap (λ (t : List (g .W·Row .Denot)). set (take i (drop at store) ++ drop i rows) i (getD t (at + i) d)) (c .loop-k .inv .0) ∙ loaded-more store rows at i d (c .loop-k-test .taken) (c .pre), c .loop-k .inv .2, c .loop-k .inv .3)
 
 pub returns : need.returns
 returns g c =
     let rows = c .args .self .now .rows .now in
     let store = c .args .self .now .store .now in
-    record { rows = c .loop-k .inv .1 ∙ loaded-all store rows (c .args .at) (c .loop-k .k) (c .loop-k-test .left) (c .loop-k .kept .k-end); store = c .loop-k .inv .0 }
+    record { rows = c .loop-k .inv .1 ∙ loaded-all store rows (c .args .at) (c .loop-k .k) (c .loop-k-test .left) (c .loop-k .kept .k-end); store = c .loop-k .inv .0; lent = (c .loop-k .inv .2, c .loop-k .inv .3) }

@@ -9,7 +9,7 @@ use Rattle.plan.proofs.StoreLaws.{stored-none, stored-long, stored-more}
 use Rattle.plan.proofs.board.Board.save.Needs as need
 
 pub loop-i-holds : need.loop-i-holds
-loop-i-holds g c = (refl, stored-none (c .args .self .now .store .now) (c .args .self .now .rows .now) (c .args .at))
+loop-i-holds g c = (refl, stored-none (c .args .self .now .store .now) (c .args .self .now .rows .now) (c .args .at), refl, refl)
 
 pub index-self-at : need.index-self-at
 index-self-at g c =
@@ -28,10 +28,10 @@ loop-i-again g c =
     let at = c .args .at in
     let i = c .loop-i .i in
     let d = c .index-self-i .result in
-    (c .loop-i .inv .0, ap (λ (t : List (g .W·Row .Denot)). set t (at + i) (getD (c .loop-i .self .rows .now) i d)) (c .loop-i .inv .1) ∙ ap (λ (t : List (g .W·Row .Denot)). set (stored store at (take i rows)) (at + i) (getD t i d)) (c .loop-i .inv .0) ∙ stored-more store rows at i d (c .loop-i-test .taken) (c .pre))
+    (c .loop-i .inv .0, ap (λ (t : List (g .W·Row .Denot)). set t (at + i) (getD (c .loop-i .self .rows .now) i d)) (c .loop-i .inv .1) ∙ ap (λ (t : List (g .W·Row .Denot)). set (stored store at (take i rows)) (at + i) (getD t i d)) (c .loop-i .inv .0) ∙ stored-more store rows at i d (c .loop-i-test .taken) (c .pre), c .loop-i .inv .2, c .loop-i .inv .3)
 
 pub returns : need.returns
 returns g c =
     let rows = c .args .self .now .rows .now in
     let store = c .args .self .now .store .now in
-    record { rows = c .loop-i .inv .0; store = c .loop-i .inv .1 ∙ ap (stored store (c .args .at)) (take-all (c .loop-i .i) rows (c .loop-i-test .left)) }
+    record { rows = c .loop-i .inv .0; store = c .loop-i .inv .1 ∙ ap (stored store (c .args .at)) (take-all (c .loop-i .i) rows (c .loop-i-test .left)); lent = (c .loop-i .inv .2, c .loop-i .inv .3) }

@@ -21,5 +21,6 @@ returns g c =
       equation = equation;
       rows = c .cut-rows .ensures .rows;
       store = refl;
+      lent = (refl, refl);
       asked = call-carries (g .B·RuleBook .sets) (g .P·Policy .choice) (proper-sets (g .Kind·Window .kind) (g .Kind·Window·met .proper) (g .B·RuleBook .sets) (g .B·RuleBook·met .tied)) (g .P·Policy·met .chooses) (ask-cut j window) s (or-else board (window-refusal j (s .table))) (cutting j window s .answer) (cutting j window s .after) _ _ (λ o a h. cut j window a s (in-table-from j (s .table) (none-asked board (window-refusal j (s .table)) o .1)) (g .B·RuleBook·met .tied window .1 (g .Kind·Window·met .kinds (c .args .window))) h) equation;
     }

@@ -30,6 +30,7 @@ returns-in-Some g c =
       equation = call-refused (or-else board (mark-refusal s)) (c .in-Some .refused) s (record { answer = Ok (record { number = s .handed }); after = marking s }) (asked-first board (mark-refusal s) (c .in-Some .refused) (c .in-Some .ensures tt));
       rows = refl;
       store = refl;
+      lent = (refl, refl);
       asked = refused-carries (g .B·RuleBook .sets) (g .P·Policy .choice) (proper-sets (g .Kind·Window .kind) (g .Kind·Window·met .proper) (g .B·RuleBook .sets) (g .B·RuleBook·met .tied)) (g .P·Policy·met .chooses) s;
     }
 
@@ -44,6 +45,7 @@ returns-then-depth-ge16 g c =
       equation = call-refused (or-else board (mark-refusal s)) Marks s (record { answer = Ok (record { number = s .handed }); after = marking s }) (asked-next board (mark-refusal s) (Some Marks) (c .in-rest .ensures tt) (too-many s l));
       rows = refl;
       store = refl;
+      lent = (refl, refl);
       asked = refused-carries (g .B·RuleBook .sets) (g .P·Policy .choice) (proper-sets (g .Kind·Window .kind) (g .Kind·Window·met .proper) (g .B·RuleBook .sets) (g .B·RuleBook·met .tied)) (g .P·Policy·met .chooses) s;
     }
 
@@ -58,6 +60,7 @@ returns-then-number-ge1000000000 g c =
       equation = call-refused (or-else board (mark-refusal s)) Handed s (record { answer = Ok (record { number = s .handed }); after = marking s }) (asked-next board (mark-refusal s) (Some Handed) (c .in-rest .ensures tt) (all-handed s l (c .if-number-ge1000000000 .taken)));
       rows = refl;
       store = refl;
+      lent = (refl, refl);
       asked = refused-carries (g .B·RuleBook .sets) (g .P·Policy .choice) (proper-sets (g .Kind·Window .kind) (g .Kind·Window·met .proper) (g .B·RuleBook .sets) (g .B·RuleBook·met .tied)) (g .P·Policy·met .chooses) s;
     }
 
@@ -101,5 +104,6 @@ returns g c =
       equation = equation;
       rows = c .save .ensures .rows;
       store = c .save .ensures .store ∙ ap (λ (d : ℕ). stored store (d * status .windows) rows) (sym long);
+      lent = c .save .ensures .lent;
       asked = call-carries (g .B·RuleBook .sets) (g .P·Policy .choice) (proper-sets (g .Kind·Window .kind) (g .Kind·Window·met .proper) (g .B·RuleBook .sets) (g .B·RuleBook·met .tied)) (g .P·Policy·met .chooses) (ask-marked (status .handed)) s o token (marking s) _ _ (λ _ a h. marked a s h) equation;
     }

@@ -28,6 +28,7 @@ returns g c =
       equation = e;
       rows = c .settle-rows .ensures .rows;
       store = refl;
+      lent = (refl, refl);
       asked = settle-carries sets choice proper chooses before (length store) r after e;
       widest = settle-says sets choice proper chooses before (length store) r after e;
       bound = settle-bound sets choice proper chooses before (length store) r after e (g .B·RuleBook·met .few (plan .book)) (g .B·RuleBook·met .lawful (plan .book)) (λ o. all-kinds stands sets rows (λ row n. g .B·RuleBook·met .tied (stands row) .1 (g .Kind·Window·met .rows row n)) (fine (map stands rows) (length store) (eqb (length (map stands rows)) (plan .status .windows)) o .windows));

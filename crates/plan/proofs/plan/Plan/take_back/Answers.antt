@@ -31,6 +31,7 @@ returns-in-Some g c =
       equation = call-refused (or-else board (open-refusal (c .args .mark .number) s)) (c .in-Some .refused) s (record { answer = Ok Done; after = taking-back (c .args .mark .number) s }) (asked-first board (open-refusal (c .args .mark .number) s) (c .in-Some .refused) (c .in-Some .ensures tt));
       rows = refl;
       store = refl;
+      lent = (refl, refl);
       asked = refused-carries (g .B·RuleBook .sets) (g .P·Policy .choice) (proper-sets (g .Kind·Window .kind) (g .Kind·Window·met .proper) (g .B·RuleBook .sets) (g .B·RuleBook·met .tied)) (g .P·Policy·met .chooses) s;
     }
 
@@ -45,6 +46,7 @@ returns-in-rest-find g c =
       equation = call-refused (or-else board (open-refusal (c .args .mark .number) s)) Ended s (record { answer = Ok Done; after = taking-back (c .args .mark .number) s }) (asked-next board (open-refusal m s) (Some Ended) (c .in-rest .ensures tt) (has-ended m s ended));
       rows = refl;
       store = refl;
+      lent = (refl, refl);
       asked = refused-carries (g .B·RuleBook .sets) (g .P·Policy .choice) (proper-sets (g .Kind·Window .kind) (g .Kind·Window·met .proper) (g .B·RuleBook .sets) (g .B·RuleBook·met .tied)) (g .P·Policy·met .chooses) s;
     }
 
@@ -114,5 +116,6 @@ returns g c =
       equation = equation;
       rows = tt;
       store = c .load .ensures .store;
+      lent = c .load .ensures .lent;
       asked = call-carries (g .B·RuleBook .sets) (g .P·Policy .choice) (proper-sets (g .Kind·Window .kind) (g .Kind·Window·met .proper) (g .B·RuleBook .sets) (g .B·RuleBook·met .tied)) (g .P·Policy·met .chooses) (ask-back m) s o Done (taking-back m s) _ _ (λ _ a h. back m a s h) equation;
     }
