@@ -1,16 +1,19 @@
 -- Settling rows: a plan that is made is not refused when it is settled.
-use mathlib.Core.Path.{_≡_, refl, sym, ap, subst, _∙_}
-use mathlib.Core.List.{List, [], map}
+use mathlib.Core.Path.{_≡_, refl, sym, ap, ap₂, subst, _∙_}
+use mathlib.Core.Logic.{_⊎_, inl, inr}
+use mathlib.Core.List.{List, [], map, _++_, append-nil}
 use mathlib.Core.Bool.{Bool, true, false, cond}
-use Prim.Native.Nat.{ℕ, _*_, _≤_}
+use Prim.Native.Nat.{ℕ, _+_, _-_, _*_, _<_, _≤_, min}
 use native.Mathlib.Omega.{arith}
 use lib.Dec.{eqb, leb}
-use lib.ListN.{length}
+use lib.ListN.{length, take, drop, length-append, length-drop, take-append-drop}
 use Rattle.std.specs.declared.option.Option.{Option}
 use Rattle.std.specs.declared.option.Option.the-variants.{Some, None}
 use Rattle.std.specs.declared.result.Result.{Result}
 use Rattle.std.specs.declared.result.Result.the-variants.{Ok, Err}
-use Rattle.std.proofs.shelf.Tests.{eq-eqb, leb-true}
+use Rattle.std.proofs.shelf.Lists.{take-all, take-at, drop-all, drop-at}
+use Rattle.std.proofs.shelf.Tests.{eq-eqb, leb-true, cases-lt, cond-true}
+use Rattle.windows.specs.declared.span.SpanRow.{SpanRow}
 use Rattle.rulebook.specs.Tables.{Table}
 use Rattle.rulebook.specs.Rules.{Rule}
 use Rattle.rulebook.specs.Answers.{reach-of}
@@ -22,7 +25,13 @@ use Rattle.plan.specs.Refusals.{is-table, board-refusal, refused, make-refused,
 use Rattle.plan.specs.declared.answer.PlanRefusal.{PlanRefusal}
 use Rattle.plan.specs.declared.answer.PlanRefusal.the-variants as plan
 use Rattle.plan.specs.declared.answer.Verdict.{Verdict}
-use Rattle.sheet.specs.Settled.{Ran, ran-unless, ran}
+use Rattle.plan.specs.Views.{stored}
+use Rattle.listing.specs.Lines.{span-look, listing, Printed, printed}
+use Rattle.sheet.specs.Reading.{Held, roomy}
+use Rattle.sheet.specs.declared.states.Read.{Read}
+use Rattle.sheet.specs.Settled.{Ran, ran-unless, ran, given-to, Untouched, windows-of, by-plan, Settling, settled-to, settled, left, printing, printed-sheet}
+use Rattle.sheet.specs.declared.fault.Fault.{Fault}
+use Rattle.windows.specs.Rows.{span-numbers}
 
 none-some : {X : Type 0} (f : PlanRefusal) → _≡_ {A = Option PlanRefusal} (Some f) None → X
 none-some f e = let z : _≡_ {A = ℕ} 0 1 = cc in absurd (omega arith)
@@ -69,3 +78,64 @@ ran-settled rules w T long o s t r e n f =
     let g : settle-call first long (making rules T) ≡ record { answer = r; after = t } = subst (λ (x : State). settle-call first long x ≡ record { answer = r; after = t }) (sym q) f in
     let h : settle-call first long (making rules T) ≡ run = ap (λ (x : Option PlanRefusal). unless x (making rules T) run) (settles rules T long p) in
     ap (λ x. ran-unless x rules T) p ∙ ap {B = Ran} (λ (c : Call Verdict). record { answer = c .answer; after = c .after .table }) (sym h ∙ g)
+
+-- ---- over rows and a store
+-- asked before anything is written
+pub ran-asked : (rules : List Rule) (T : Table) (long : ℕ) (f : PlanRefusal) → Some f ≡ make-refused rules T long → ran rules T long ≡ record { answer = Err f; after = T }
+ran-asked rules T long f e = ap (λ o. ran-unless o rules T) (sym e)
+
+-- an accepted making runs to a verdict
+pub given-stored : (rules : List Rule) (T U : Table) (long : ℕ) (r : Result Verdict PlanRefusal) (store rows : List SpanRow) → None ≡ make-refused rules T long → ran rules T long ≡ record { answer = r; after = U } → given-to r store rows ≡ stored store 0 rows
+given-stored rules T U long (Ok v) store rows n e = refl
+given-stored rules T U long (Err f) store rows n e = let q : _≡_ {A = Result Verdict PlanRefusal} (Ok (settling first (making rules T) .verdict)) (Err f) = ap (λ (x : Ran). x .answer) (ap (λ o. ran-unless o rules T) n ∙ e) in let z : _≡_ {A = ℕ} 0 1 = cc in absurd (omega arith)
+
+-- what the copy leaves in the store
+pub copied : (store rows mid : List SpanRow) → mid ≡ rows → mid ++ drop (length rows - 0) store ≡ stored store 0 rows
+copied store rows mid e = let n : length rows - 0 ≡ 0 + length rows = omega arith in ap₂ (λ m k. m ++ drop k store) e n
+
+pub copied-long : (store rows mid : List SpanRow) → mid ≡ rows → length rows ≤ length store → length (mid ++ drop (length rows - 0) store) ≡ length store
+copied-long store rows mid e h = let l = length-append mid (drop (length rows - 0) store) in let d = length-drop (length rows - 0) store in omega (arith, ap length e)
+
+-- ---- over the first n rows
+-- the first n rows, as many as there are
+pub front-is : {X : Type 0} (rows : List X) (n end : ℕ) → end ≡ min n (length rows) → take (end - 0) rows ≡ take n rows
+front-is rows n end e = go (cases-lt n (length rows))
+  where
+    go : (n < length rows) ⊎ (length rows ≤ n) → take (end - 0) rows ≡ take n rows
+    go (inl h) = let q : end - 0 ≡ n = omega arith in ap (λ k. take k rows) q
+    go (inr h) = take-all (end - 0) rows (omega arith) ∙ sym (take-all n rows h)
+
+pub front-new : {X : Type 0} (rows new : List X) (n end : ℕ) → end ≡ min n (length rows) → length new ≡ end - 0 → take n (new ++ drop (end - 0) rows) ≡ new
+front-new rows new n end e l = go (cases-lt n (length rows))
+  where
+    go : (n < length rows) ⊎ (length rows ≤ n) → take n (new ++ drop (end - 0) rows) ≡ new
+    go (inl h) = take-at new (drop (end - 0) rows) n (omega arith)
+    go (inr h) = ap (λ x. take n (new ++ x)) (drop-all (end - 0) rows (omega arith)) ∙ ap (take n) (append-nil new) ∙ take-all n new (omega arith)
+
+pub front-others : {X : Type 0} (rows new : List X) (n end : ℕ) → end ≡ min n (length rows) → length new ≡ end - 0 → drop n (new ++ drop (end - 0) rows) ≡ drop n rows
+front-others rows new n end e l = go (cases-lt n (length rows))
+  where
+    go : (n < length rows) ⊎ (length rows ≤ n) → drop n (new ++ drop (end - 0) rows) ≡ drop n rows
+    go (inl h) = let q : end - 0 ≡ n = omega arith in drop-at new (drop (end - 0) rows) n (omega arith) ∙ ap (λ k. drop k rows) q
+    go (inr h) = ap (λ x. drop n (new ++ x)) (drop-all (end - 0) rows (omega arith)) ∙ ap (drop n) (append-nil new) ∙ drop-all n new (omega arith) ∙ sym (drop-all n rows h)
+
+-- rows whose first ones are the very same
+pub front-untouched : {A E : Type 0} (r : Result A E) (rows new : List SpanRow) (k : ℕ) → Untouched r (take k rows) new → Untouched r rows (new ++ drop k rows)
+front-untouched (Ok v) rows new k u = tt
+front-untouched (Err f) rows new k u = ap (λ x. x ++ drop k rows) u ∙ take-append-drop k rows
+
+-- ---- a sheet
+pub settled-left : (s : Read) (l : Held) (a : Result Verdict PlanRefusal) (rows store : List SpanRow) (r : Result Verdict Fault) → roomy l ≡ true → ran (l .rules) (windows-of s l) (length (l .store)) ≡ record { answer = a; after = map span-numbers (take (s .windows) rows) } → drop (s .windows) rows ≡ drop (s .windows) (l .rows) → store ≡ given-to a (l .store) (take (s .windows) (l .rows)) → r ≡ by-plan (s .at) a → settled s l ≡ left s r (l .rules) rows store
+settled-left s l a rows store r w e o t q =
+    ap (settled-to s l) (cond-true (roomy l) _ _ w ∙ e)
+    ∙ ap {B = Settling} (λ (x : List SpanRow). record { answer = by-plan (s .at) a; rules = l .rules; table = map span-numbers (take (s .windows) rows); others = x; store = given-to a (l .store) (take (s .windows) (l .rows)) }) (sym o)
+    ∙ ap {B = Settling} (λ (x : List SpanRow). record { answer = by-plan (s .at) a; rules = l .rules; table = map span-numbers (take (s .windows) rows); others = drop (s .windows) rows; store = x }) (sym t)
+    ∙ ap {B = Settling} (λ (x : Result Verdict Fault). left s x (l .rules) rows store) (sym q)
+
+pub plan-untouched : (at : ℕ) (a : Result Verdict PlanRefusal) (r : Result Verdict Fault) (old new : List SpanRow) → r ≡ by-plan at a → Untouched a old new → Untouched r old new
+plan-untouched at (Ok v) r old new q u = subst (λ (x : Result Verdict Fault). Untouched x old new) (sym q) tt
+plan-untouched at (Err f) r old new q u = subst (λ (x : Result Verdict Fault). Untouched x old new) (sym q) u
+
+-- ---- printing
+pub printed-is : (s : Read) (l : Held) (v : Verdict) (out : List ℕ) (part : List SpanRow) (p : Printed) → roomy l ≡ true → part ≡ take (s .windows) (l .rows) → printed (listing span-look v part (l .store)) out ≡ p → printed-sheet s l v out ≡ printing s p (p .answer)
+printed-is s l v out part p r e q = cond-true (roomy l) _ _ r ∙ ap (λ (x : Printed). printing s x (x .answer)) (ap (λ t. printed (listing span-look v t (l .store)) out) (sym e) ∙ q)

@@ -79,6 +79,10 @@ settled-to s l r = record { answer = by-plan (s .at) (r .answer); rules = l .rul
 abbrev pub settled : Read → Held → Settling
 settled s l = settled-to s l (cond (roomy l) (ran (l .rules) (windows-of s l) (length (l .store))) (record { answer = Err plan.Store; after = windows-of s l }))
 
+-- a settling with this answer that left these rules, rows and store
+abbrev pub left : Read → Result Verdict Fault → List Rule → List SpanRow → List SpanRow → Settling
+left s r rules rows store = record { answer = r; rules = rules; table = map span-numbers (take (s .windows) rows); others = drop (s .windows) rows; store = store }
+
 -- ---- printing
 -- what a printing answers, and the buffer after it
 pub record Printing : Type 0 where

@@ -8,7 +8,7 @@ ghost use Rattle.plan.specs.Plans.{Lends-on};
 ghost use Rattle.plan.specs.Refusals.{make-refused};
 ghost use Rattle.books.specs.DayBooks.{day-rules};
 ghost use Rattle.sheet.specs.Reading.{held};
-ghost use Rattle.sheet.specs.Settled.{ran, Untouched, given-to, windows-of, settled, printed-sheet};
+ghost use Rattle.sheet.specs.Settled.{ran, Untouched, given-to, by-plan, settled, left, printed-sheet};
 use super::Read;
 use super::is_roomy;
 use crate::fault::Cause;
@@ -89,26 +89,48 @@ fn settle_rows(
     settle_slices(book, rows, store)
 }
 
+// The same for the first n rows.
+fn settle_front(
+    book: DayBook,
+    rows: &mut [SpanRow],
+    n: usize,
+    store: &mut [SpanRow],
+) -> Result<Verdict, PlanRefusal>
+    ensures equation { λ r. ⌜ ran (day-rules book) (map span-numbers (take n (now (rows .entry)))) (length (now (store .entry))) ≡ record { answer = r; after = map span-numbers (take n (now (rows .exit))) } ⌝ }
+    ensures others { λ _. ⌜ drop n (now (rows .exit)) ≡ drop n (now (rows .entry)) ⌝ }
+    ensures rows { λ r. ⌜ Untouched r (now (rows .entry)) (now (rows .exit)) ⌝ }
+    ensures store { λ r. ⌜ now (store .exit) ≡ given-to r (now (store .entry)) (take n (now (rows .entry))) ⌝ }
+{
+    let end = n.min(rows.len());
+    settle_rows(book, &mut rows[0..end], store)
+}
+
+// A plan's answer, its refusal carried as a fault of the sheet.
+fn by_plan(at: usize, answer: Result<Verdict, PlanRefusal>) -> Result<Verdict, Fault>
+    ensures { λ r. ⌜ r ≡ by-plan at answer ⌝ }
+{
+    match answer {
+        Ok(verdict) => Ok(verdict),
+        Err(refusal) => Err(Fault {
+            cause: Cause::Plan(refusal),
+            at,
+        }),
+    }
+}
+
 impl Read {
     // Settles the sheet's windows by its rules; the windows as the sheet gave them are then at the store's front.
-    pub fn settle(&self, lent: &mut Lent) -> Result<Verdict, Fault>
-        ensures equation { λ r. ⌜ settled (now (self .entry)) (held (now (lent .entry))) ≡ (let l = held (now (lent .exit)) in record { answer = r; rules = l .rules; table = windows-of (now (self .entry)) l; others = drop (now (self .entry) .windows) (l .rows); store = l .store }) ⌝ }
-        ensures rows { λ r. ⌜ Untouched r (now (now (lent .entry) .rows)) (now (now (lent .exit) .rows)) ⌝ }
+    pub fn settle(&self, lent: Lent) -> Result<Verdict, Fault>
+        ensures equation { λ r. ⌜ settled (now (self .entry)) (held (lent .entry)) ≡ left (now (self .entry)) r (day-rules (now (lent .exit .0))) (now (lent .exit .1 .0)) (now (lent .exit .1 .1 .0)) ⌝ }
+        ensures rows { λ r. ⌜ Untouched r (now (lent .entry .rows)) (now (lent .exit .1 .0)) ⌝ }
     {
         let at = self.at;
-        if !is_roomy(lent) {
+        if !is_roomy(&lent) {
             let cause = Cause::Plan(PlanRefusal::Store);
             return Err(Fault { cause, at });
         }
-        let n = self.windows.min(lent.rows.len());
-        let book = *lent.book;
-        match settle_rows(book, &mut lent.rows[0..n], lent.store) {
-            Ok(verdict) => Ok(verdict),
-            Err(refusal) => Err(Fault {
-                cause: Cause::Plan(refusal),
-                at,
-            }),
-        }
+        let Lent { book, rows, store } = lent;
+        by_plan(at, settle_front(*book, rows, self.windows, store))
     }
 
     // Prints the listing of a settled sheet into `out` and answers its length.
