@@ -1,11 +1,13 @@
 // Reads a sheet from the standard input, settles it, and prints its listing, or one line that says why it was refused.
 use books::DayBook;
+use plan::Verdict;
 use sheet::Fault;
 use sheet::Layer;
 use sheet::Lent;
 use sheet::Open;
+use sheet::Read;
 use std::io;
-use std::io::Read;
+use std::io::Read as _;
 use windows::SpanRow;
 
 // The longest sheet, and one byte more to tell that a sheet is too long.
@@ -14,16 +16,44 @@ const MOST_BYTES: u64 = 61_441;
 // Room for the longest listing: a head, and 64 lines of at most 32 bytes.
 const MOST_TEXT: usize = 4_096;
 
-// Opens, reads, finishes, settles and prints a sheet; answers the length of its listing.
-fn settle(bytes: &[u8], lent: &mut Lent, out: &mut [u8]) -> Result<usize, Fault> {
-    let mut open = Open::open(bytes, lent)?;
-    open.read_all(bytes, lent)?;
-    let read = match open.finish(bytes) {
-        Ok(read) => read,
-        Err((_open, fault)) => return Err(fault),
-    };
-    let verdict = read.settle(lent)?;
-    read.print(verdict, lent, out)
+// Opens, reads and finishes a sheet.
+fn read(
+    bytes: &[u8],
+    book: &mut DayBook,
+    rows: &mut [SpanRow],
+    store: &mut [SpanRow],
+) -> Result<Read, Fault> {
+    let mut lent = Lent { book, rows, store };
+    let mut open = Open::open(bytes, &mut lent)?;
+    open.read_all(bytes, &mut lent)?;
+    match open.finish(bytes) {
+        Ok(read) => Ok(read),
+        Err((_open, fault)) => Err(fault),
+    }
+}
+
+// Settles a sheet that was read.
+fn settle(
+    sheet: &Read,
+    book: &mut DayBook,
+    rows: &mut [SpanRow],
+    store: &mut [SpanRow],
+) -> Result<Verdict, Fault> {
+    sheet.settle(Lent { book, rows, store })
+}
+
+// Answers the length of a sheet's listing, which it writes to the front of `out`.
+fn list(
+    bytes: &[u8],
+    book: &mut DayBook,
+    rows: &mut [SpanRow],
+    store: &mut [SpanRow],
+    out: &mut [u8],
+) -> Result<usize, Fault> {
+    let sheet = read(bytes, book, rows, store)?;
+    let verdict = settle(&sheet, book, rows, store)?;
+    let lent = Lent { book, rows, store };
+    sheet.print(verdict, &lent, out)
 }
 
 fn layer_name(layer: Layer) -> &'static str {
@@ -43,12 +73,7 @@ fn main(rt: LibcRuntime) -> io::Result<()> {
     let mut rows = vec![in heap; none; 64]?;
     let mut store = vec![in heap; none; 1024]?;
     let mut out = vec![in heap; 0u8; MOST_TEXT]?;
-    let mut lent = Lent {
-        book: &mut book,
-        rows: &mut rows,
-        store: &mut store,
-    };
-    match settle(&input, &mut lent, &mut out) {
+    match list(&input, &mut book, &mut rows, &mut store, &mut out) {
         Ok(length) if length <= out.len() => rt.write_all(&out[0..length]),
         Ok(_) => Ok(()),
         Err(fault) => {
