@@ -1,14 +1,14 @@
 -- Sets of window numbers as the bits of a mask.
-use mathlib.Core.Path.{_≡_, refl, sym, ap, subst, _∙_}
+use mathlib.Core.Path.{_≡_, refl, sym, ap, _∙_}
 use mathlib.Core.Logic.{_⊎_, inl, inr}
-use mathlib.Core.Bool.{Bool, true, false, not, cond, _&&_, _||_}
-use Prim.Native.Nat.{ℕ, zero, suc, _+_, _-_, _*_, _/_, _%_, _^_, _<_, _≤_, max}
+use mathlib.Core.Bool.{Bool, true, false, not, _&&_, _||_}
+use Prim.Native.Nat.{ℕ, zero, suc, _+_, _-_, _*_, _/_, _%_, _^_, _<_, _≤_}
 use native.Mathlib.Nat.{pow-suc, div-eq-of-lt, zero-div}
 use native.Mathlib.Omega.{arith}
 use lib.Bits.{bitOr, or-step}
 use lib.Dec.{eqb, ltb}
 use Rattle.std.proofs.shelf.Bits.{pow-pos, pow-add, shl-shr, or-shr, pow-below, div-below, one-shl, div-add-mod'}
-use Rattle.std.proofs.shelf.Tests.{cases-order, both-ways, or-parts, or-from, and-left, lt-ltb, eqb-true, cond-true, cond-false}
+use Rattle.std.proofs.shelf.Tests.{cases-order, both-ways, or-parts, or-from, lt-ltb}
 use Rattle.std.proofs.shelf.Ways.{tells, eqb-tells}
 use Rattle.rulebook.specs.Answers.{bit, member, any}
 use Rattle.rulebook.specs.declared.set.WindowSet.{WindowSet}

@@ -2,26 +2,24 @@
 use mathlib.Core.Path.{_≡_, refl, sym, ap, ap₂, subst, _∙_}
 use mathlib.Core.List.{List, [], _∷_}
 use mathlib.Core.Logic.{_⊎_, inl, inr}
-use mathlib.Core.Bool.{Bool, true, false, not, cond, _&&_, _||_}
-use Prim.Native.Nat.{ℕ, zero, suc, _+_, _≤_, _<_}
+use mathlib.Core.Bool.{Bool, true, false, cond, _&&_}
+use Prim.Native.Nat.{ℕ, zero, suc, _≤_}
 use native.Mathlib.Omega.{arith}
 use lib.Dec.{eqb}
 use lib.ListN.{length}
 use mir.Syntax.{w32}
 use mir.Val.{ofZ, toZ, SFits}
-use lib.IntN.{ℤ, pos, negsuc, natAbs, _+ℤ_, _-ℤ_}
-use lib.Signed.{leZ, ltZ, _<ℤ_, _≤ℤ_}
+use lib.IntN.{ℤ, pos, negsuc, _+ℤ_, _-ℤ_}
+use lib.Signed.{_<ℤ_, _≤ℤ_}
 use Rattle.std.specs.Numbers.{minZ, maxZ}
-use Rattle.std.specs.shelf.Lists.{kept-by}
-use Rattle.std.specs.declared.option.Option.{Option}
 use Rattle.std.specs.declared.option.Option.the-variants.{Some, None}
-use Rattle.std.proofs.shelf.Signed.{ints, clamps, toZ-ofZ}
+use Rattle.std.proofs.shelf.Signed.{ints, toZ-ofZ}
 use Rattle.std.proofs.shelf.Ways.{tells}
-use Rattle.windows.specs.Sets.{eqZ, has, In, Within, Rising, up-from, count, range, between, hull, meet, remove, sole-of, same-set}
-use Rattle.windows.specs.Kinds.{Kind, Of, Proper, Smallest, all-but, spans}
+use Rattle.windows.specs.Sets.{eqZ, has, In, Within, up-from, count, range, hull, meet, remove, sole-of, same-set}
+use Rattle.windows.specs.Kinds.{Of, Proper, all-but, spans}
 use Rattle.windows.specs.Rows.{Stands, span-stands, span-numbers}
 use Rattle.windows.specs.declared.span.SpanRow.{SpanRow}
-use Rattle.windows.proofs.SetLaws.{tests, never, bool-same, eqZ-tells, between-is, is-between, has-range, rising-range, range-none, range-some, count-is, length-range, kept-range, Convex, hull-convex, convex-hull, within-hull, hull-mono, hull-again, rising-hull, hull-none, within-both, rising-same, rising-kept, has-remove}
+use Rattle.windows.proofs.SetLaws.{tests, never, bool-same, eqZ-tells, between-is, is-between, has-range, rising-range, range-some, count-is, length-range, kept-range, Convex, hull-convex, convex-hull, within-hull, hull-mono, hull-again, rising-hull, hull-none, within-both, has-remove}
 
 pub spans-proper : Proper spans
 spans-proper = record { holds = within-hull; mono = hull-mono; again = hull-again; rising = λ s r. rising-hull s; none = hull-none; from = omega (arith, ints); to = omega (arith, ints) }

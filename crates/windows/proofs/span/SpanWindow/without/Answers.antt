@@ -1,23 +1,17 @@
-use mathlib.Core.Path.{_≡_, refl, sym, ap, _∙_}
-use mathlib.Core.Logic.{_⊎_, inl, inr}
-use mathlib.Core.Bool.{Bool, true, false, _&&_}
-use Prim.Native.Nat.{ℕ, _≤_, _<_}
+use mathlib.Core.Path.{_≡_, sym, ap, _∙_}
+use mathlib.Core.Bool.{true, false}
 use native.Mathlib.Omega.{arith}
 use borrow.Author.Needs.{needs}
 use mir.Syntax.{w32}
-use mir.Val.{ofZ, toZ, SFits}
-use lib.Dec.{eqb}
-use lib.IntN.{ℤ, pos, negsuc, _+ℤ_, _-ℤ_}
+use mir.Val.{SFits}
+use lib.IntN.{ℤ, pos, negsuc}
 use lib.Signed.{leZ, _≤ℤ_, _<ℤ_}
-use Rattle.std.specs.Numbers.{minZ, maxZ}
-use Rattle.std.proofs.shelf.Signed.{ints, clamps, toZ-ofZ}
-use Rattle.std.proofs.shelf.Ways.{tells}
-use Rattle.windows.specs.Sets.{range, meet}
+use Rattle.std.proofs.shelf.Signed.{ints, toZ-ofZ}
+use Rattle.windows.specs.Sets.{range}
 use Rattle.windows.specs.Kinds.{spans, all-but}
-use Rattle.windows.specs.Rows.{Stands, span-stands, span-numbers}
-use Rattle.windows.proofs.SetLaws.{tests, range-none, range-some}
+use Rattle.windows.proofs.SetLaws.{range-none, range-some}
 use Rattle.windows.proofs.KindLaws.{smallest-from, but-none}
-use Rattle.windows.proofs.SpanLaws.{spans-proper, span-of, fits-lo, fits-hi, back, alike-is, row-is, row-none, meet-range, sole-range-one, sole-range-more, size-range, all-but-ends, moved-low, moved-high}
+use Rattle.windows.proofs.SpanLaws.{spans-proper, span-of, fits-lo, fits-hi, all-but-ends, moved-low, moved-high}
 use Rattle.windows.proofs.span.SpanWindow.without.Needs as need
 
 pub ghost-result : need.ghost-result
