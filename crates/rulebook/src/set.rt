@@ -1,6 +1,6 @@
 // Sets of window numbers.
 ghost use mathlib.Core.Path.{_≡_};
-ghost use mathlib.Core.Bool.{Bool, false, not, _||_, _&&_};
+ghost use mathlib.Core.Bool.{false, not, _||_, _&&_};
 ghost use Prim.Native.Nat.{ℕ};
 ghost use lib.Dec.{eqb, ltb};
 ghost use Rattle.rulebook.specs.Answers.{member, any};
