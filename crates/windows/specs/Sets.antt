@@ -107,11 +107,6 @@ same-set [] (y ∷ t) = false
 same-set (x ∷ s) [] = false
 same-set (x ∷ s) (y ∷ t) = eqZ x y && same-set s t
 
--- is there a number
-abbrev pub some-left : List ℤ → Bool
-some-left [] = false
-some-left (x ∷ s) = true
-
 -- how many numbers the sets have together
 abbrev pub sizes : List (List ℤ) → ℕ
 sizes [] = 0

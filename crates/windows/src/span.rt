@@ -13,6 +13,7 @@ ghost use Rattle.windows.specs.Kinds.{spans};
 ghost use Rattle.windows.specs.Rows.{Stands, Checked, span-numbers};
 use crate::window::Window;
 
+// No window has a number below the lowest or above the highest.
 const LOWEST: i32 = -1_000_000;
 
 const HIGHEST: i32 = 1_000_000;
@@ -49,15 +50,17 @@ fn moved(end: i32, v: i32, by: i32) -> i32
     if v == end { end + by } else { end }
 }
 
-// The span from lo to hi, or none where hi is below lo.
-fn between(lo: i32, hi: i32) -> Option<Span>
-    requires { ⌜ (negsuc 999999 ≤ℤ lo) × (hi ≤ℤ pos 1000000) ⌝ }
-    ensures { λ r. ⌜ Cases r (range lo hi ≡ []) (λ w. range (w .lo) (w .hi) ≡ range lo hi) ⌝ }
-{
-    if lo <= hi {
-        Some(Span { lo, hi })
-    } else {
-        None
+impl Span {
+    // The span from lo to hi, or none where hi is below lo.
+    fn from_ends(lo: i32, hi: i32) -> Option<Span>
+        requires { ⌜ (negsuc 999999 ≤ℤ lo) × (hi ≤ℤ pos 1000000) ⌝ }
+        ensures { λ r. ⌜ Cases r (range lo hi ≡ []) (λ w. range (w .lo) (w .hi) ≡ range lo hi) ⌝ }
+    {
+        if lo <= hi {
+            Some(Span { lo, hi })
+        } else {
+            None
+        }
     }
 }
 
@@ -97,11 +100,11 @@ pub impl Window for Span as SpanWindow {
     }
 
     fn meet(&self, other: &Span) -> Option<Span> {
-        between(self.lo.max(other.lo), self.hi.min(other.hi))
+        Span::from_ends(self.lo.max(other.lo), self.hi.min(other.hi))
     }
 
     fn without(&self, v: i32) -> Option<Span> {
-        between(moved(self.lo, v, 1), moved(self.hi, v, -1))
+        Span::from_ends(moved(self.lo, v, 1), moved(self.hi, v, -1))
     }
 
     fn sole(&self) -> Option<i32> {

@@ -20,4 +20,4 @@ returns c =
     let s = meet-range (c .args .self .now .lo) (c .args .self .now .hi) (c .args .other .now .lo) (c .args .other .now .hi) in
     let m = c .max .ensures .value in
     let n = c .min .ensures .value in
-    subst (λ u. Cases (c .between .result) (u ≡ []) (λ w. range (w .lo) (w .hi) ≡ u)) (cc (a .0, a .1, b .0, b .1)) (c .between .ensures)
+    subst (λ u. Cases (c .from-ends .result) (u ≡ []) (λ w. range (w .lo) (w .hi) ≡ u)) (cc (a .0, a .1, b .0, b .1)) (c .from-ends .ensures)

@@ -11,8 +11,8 @@ use Rattle.windows.specs.Kinds.{spans, all-but}
 use Rattle.windows.proofs.SpanLaws.{span-of, fits-lo, fits-hi, all-but-ends, span-smallest, moved-low, moved-high}
 use Rattle.windows.proofs.span.SpanWindow.without.Needs as need
 
-pub between-requires : need.between-requires
-between-requires c κs =
+pub from-ends-requires : need.from-ends-requires
+from-ends-requires c κs =
     let s = c .args .self .now .stands in
     let fl = fits-lo _ _ s in
     let fh = fits-hi _ _ s in
@@ -38,5 +38,5 @@ returns c =
     let e = all-but-ends (c .args .self .now .lo) (c .args .self .now .hi) (c .args .v) (s .0) in
     let q : range (c .moved .result) (c .moved-2 .result) ≡ all-but spans (range (c .args .self .now .lo) (c .args .self .now .hi)) (c .args .v) = ap (λ z. range z (c .moved-2 .result)) l ∙ ap (range _) h ∙ sym e in
     let o = span-of (c .args .self .now .lo) (c .args .self .now .hi) (s .0) (s .1) (s .2) in
-    let t = subst (λ u. Cases (c .between .result) (u ≡ []) (λ w. range (w .lo) (w .hi) ≡ u)) q (simp toZ-ofZ at (c .between .ensures)) in
-    record { equation = t; smallest = span-smallest (c .between .result) _ (c .args .v) o t }
+    let t = subst (λ u. Cases (c .from-ends .result) (u ≡ []) (λ w. range (w .lo) (w .hi) ≡ u)) q (simp toZ-ofZ at (c .from-ends .ensures)) in
+    record { equation = t; smallest = span-smallest (c .from-ends .result) _ (c .args .v) o t }
