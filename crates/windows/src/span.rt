@@ -8,7 +8,7 @@ ghost use lib.Signed.{_≤ℤ_};
 ghost use mir.Syntax.{w32};
 ghost use mir.Val.{SFits};
 ghost use Rattle.std.specs.Options.{Cases};
-ghost use Rattle.windows.specs.Sets.{eqZ, range};
+ghost use Rattle.windows.specs.Sets.{eqZ, range, sole-of};
 ghost use Rattle.windows.specs.Kinds.{spans};
 ghost use Rattle.windows.specs.Rows.{Stands, Checked, span-numbers};
 use crate::window::Window;
@@ -72,6 +72,14 @@ fn count(lo: i32, hi: i32) -> u32
     (hi - lo + 1) as u32
 }
 
+// The one number from lo to hi, or none if there are more.
+fn only(lo: i32, hi: i32) -> Option<i32>
+    requires { ⌜ Stands lo hi ⌝ }
+    ensures { λ r. ⌜ r ≡ sole-of (range lo hi) ⌝ }
+{
+    if lo == hi { Some(lo) } else { None }
+}
+
 pub impl Window for Span as SpanWindow {
     type Row = SpanRow;
 
@@ -108,11 +116,7 @@ pub impl Window for Span as SpanWindow {
     }
 
     fn sole(&self) -> Option<i32> {
-        if self.lo == self.hi {
-            Some(self.lo)
-        } else {
-            None
-        }
+        only(self.lo, self.hi)
     }
 
     fn size(&self) -> u32 {
