@@ -1,15 +1,15 @@
 -- Sets of window numbers as the bits of a mask.
-use mathlib.Core.Path.{_≡_, refl, sym, ap, subst, _∙_}
+use mathlib.Core.Path.{_≡_, refl, sym, ap, _∙_}
 use mathlib.Core.Logic.{_⊎_, inl, inr}
-use mathlib.Core.Bool.{Bool, true, false, not, cond, _&&_, _||_}
-use Prim.Native.Nat.{ℕ, zero, suc, _+_, _-_, _*_, _/_, _%_, _^_, _<_, _≤_, max}
+use mathlib.Core.Bool.{Bool, true, false, not, _||_}
+use Prim.Native.Nat.{ℕ, zero, suc, _+_, _-_, _*_, _/_, _%_, _^_, _<_, _≤_}
 use native.Mathlib.Nat.{pow-suc, div-eq-of-lt, zero-div}
 use native.Mathlib.Omega.{arith}
 use lib.Bits.{bitOr, or-step}
 use lib.Dec.{eqb, ltb}
 use Rattle.std.proofs.shelf.Bits.{pow-pos, pow-add, shl-shr, or-shr, pow-below, div-below, one-shl, div-add-mod'}
-use Rattle.std.proofs.shelf.Tests.{cases-order, both-ways, or-parts, or-from, and-left, lt-ltb, eqb-true, cond-true, cond-false}
-use Rattle.std.proofs.shelf.Ways.{tells, eqb-tells}
+use Rattle.std.proofs.shelf.Tests.{cases-order, both-ways, or-parts, or-from, lt-ltb}
+use Rattle.std.proofs.shelf.Ways.{tells}
 use Rattle.rulebook.specs.Answers.{bit, member, any}
 use Rattle.rulebook.specs.declared.set.WindowSet.{WindowSet}
 
@@ -44,13 +44,8 @@ or-bit a b = let s = or-step a b in grind (arith, tells)
 pub bit-or : (m j k : ℕ) → bit (bitOr m (2 ^ j)) k ≡ (bit m k || eqb j k)
 bit-or m j k = ap (λ x. eqb (x % 2) 1) (or-shr m (2 ^ j) k) ∙ or-bit (m / 2 ^ k) (2 ^ j / 2 ^ k) ∙ ap (λ t. bit m k || t) (pow-bit j k)
 
-pub added : (s t : WindowSet) (j k : ℕ) → j < 64 → t .mask ≡ bitOr (s .mask) ((1 * 2 ^ j) % 2 ^ 64) → member t k ≡ (member s k || (ltb j 64 && eqb j k))
-added s t j k h e =
-    let b : bit (t .mask) k ≡ (bit (s .mask) k || eqb j k) = ap (λ m. bit m k) (e ∙ ap (bitOr (s .mask)) (one-shl j 64 h)) ∙ bit-or (s .mask) j k in
-    joined (bit (t .mask) k) (bit (s .mask) k) b (eqb-tells j k)
-  where
-    joined : (x y : Bool) → x ≡ (y || eqb j k) → ((eqb j k ≡ true) × (j ≡ k)) ⊎ ((eqb j k ≡ false) × (j ≡ k → ⊥)) → (ltb k 64 && x) ≡ ((ltb k 64 && y) || (ltb j 64 && eqb j k))
-    joined x y q t = grind (arith, tells)
+pub bit-set : (m j k : ℕ) → j < 64 → bit (bitOr m ((1 * 2 ^ j) % 2 ^ 64)) k ≡ (bit m k || eqb j k)
+bit-set m j k h = ap (λ b. bit (bitOr m b) k) (one-shl j 64 h) ∙ bit-or m j k
 
 -- no bit is set exactly if the mask is 0
 none-set : (s : WindowSet) (n : ℕ) → n ≤ 64 → s .mask < 2 ^ n → any (member s) n ≡ false → s .mask ≡ 0

@@ -1,7 +1,7 @@
 -- What the calls of a rulebook answer, and what they leave.
 use mathlib.Core.Path.{_≡_}
 use mathlib.Core.List.{List, [], _∷_, _++_}
-use mathlib.Core.Bool.{Bool, true, false, cond, _&&_, _||_}
+use mathlib.Core.Bool.{Bool, false, cond, _&&_, _||_}
 use Prim.Native.Nat.{ℕ, zero, suc, _/_, _%_, _^_}
 use lib.Dec.{eqb, ltb}
 use lib.ListN.{length, getD}
@@ -9,7 +9,7 @@ use Rattle.std.specs.declared.option.Option.{Option}
 use Rattle.std.specs.declared.option.Option.the-variants.{Some, None}
 use Rattle.std.specs.declared.result.Result.{Result}
 use Rattle.std.specs.declared.result.Result.the-variants.{Ok, Err}
-use Rattle.rulebook.specs.Tables.{Table, window, differs, all-filled}
+use Rattle.rulebook.specs.Tables.{Table, differs, all-filled}
 use Rattle.rulebook.specs.Rules.{Rule, Outcome, narrowed, emptied, missing}
 use Rattle.rulebook.specs.declared.answer.Narrowing.{Narrowing}
 use Rattle.rulebook.specs.declared.answer.Narrowing.the-variants.{Changed, Emptied}

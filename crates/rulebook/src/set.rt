@@ -1,14 +1,22 @@
 // Sets of window numbers.
 ghost use mathlib.Core.Path.{_≡_};
-ghost use mathlib.Core.Bool.{Bool, false, not, _||_, _&&_};
-ghost use Prim.Native.Nat.{ℕ};
+ghost use mathlib.Core.Bool.{false, not, _||_, _&&_};
+ghost use Prim.Native.Nat.{ℕ, _<_};
 ghost use lib.Dec.{eqb, ltb};
-ghost use Rattle.rulebook.specs.Answers.{member, any};
+ghost use Rattle.rulebook.specs.Answers.{bit, member, any};
 
 // A set of window numbers below 64: bit j of the mask says whether window j is in it.
 #[derive(Clone, Copy)]
 pub struct WindowSet {
     mask: u64,
+}
+
+// The mask with bit j set too.
+fn with_bit(mask: u64, j: usize) -> u64
+    requires { ⌜ j < 64 ⌝ }
+    ensures { λ r. ⌜ ((k : ℕ) → bit r k ≡ (bit mask k || eqb j k)) ⌝ }
+{
+    mask | 1 << j
 }
 
 impl WindowSet {
@@ -41,7 +49,7 @@ impl WindowSet {
         ensures { λ _. ⌜ ((k : ℕ) → member (now (self .exit)) k ≡ (member (now (self .entry)) k || (ltb j 64 && eqb j k))) ⌝ }
     {
         if j < 64 {
-            self.mask |= 1 << j;
+            self.mask = with_bit(self.mask, j);
         }
     }
 }

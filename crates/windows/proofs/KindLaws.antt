@@ -2,15 +2,13 @@
 use mathlib.Core.Path.{_≡_, refl, sym, ap, subst, _∙_}
 use mathlib.Core.List.{List, [], _∷_}
 use mathlib.Core.Logic.{_⊎_, inl, inr}
-use mathlib.Core.Bool.{Bool, true, false, not, _&&_}
-use Prim.Native.Nat.{ℕ, _≤_, _<_}
+use mathlib.Core.Bool.{not}
+use Prim.Native.Nat.{_≤_, _<_}
 use native.Mathlib.Omega.{arith}
 use lib.ListN.{length}
 use lib.IntN.{ℤ, pos, negsuc}
-use lib.Signed.{_<ℤ_, _≤ℤ_}
-use Rattle.std.specs.shelf.Lists.{kept-by}
 use Rattle.std.proofs.shelf.Signed.{ints}
-use Rattle.windows.specs.Sets.{eqZ, has, In, Within, Above, Rising, count, range, between, meet, remove}
+use Rattle.windows.specs.Sets.{eqZ, has, In, Within, Rising, count, range, meet, remove}
 use Rattle.windows.specs.Kinds.{Kind, Of, Proper, Smallest, all-but}
 use Rattle.windows.proofs.SetLaws.{tests, never, is-between, in-cons, in-here, in-there, has-above, above-rising, within-both, none-within, rising-kept, rising-range, has-range, length-range, has-meet, has-remove}
 

@@ -2,8 +2,8 @@
 use mathlib.Core.Path.{_≡_, refl, sym, ap, subst, _∙_}
 use mathlib.Core.List.{List, [], _∷_}
 use mathlib.Core.Logic.{_⊎_, inl, inr}
-use mathlib.Core.Bool.{Bool, true, false, not, cond, _&&_, _||_}
-use Prim.Native.Nat.{ℕ, zero, suc, _+_, _≤_, _<_}
+use mathlib.Core.Bool.{Bool, true, false, not, cond, _&&_}
+use Prim.Native.Nat.{ℕ, zero, suc, _<_}
 use native.Mathlib.Omega.{arith}
 use lib.ListN.{length}
 use lib.Dec.{T}
@@ -12,7 +12,7 @@ use lib.Signed.{leZ, ltZ, _<ℤ_, _≤ℤ_}
 use Rattle.std.specs.Numbers.{minZ, maxZ}
 use Rattle.std.specs.shelf.Lists.{kept-by}
 use Rattle.std.proofs.shelf.Signed.{ints, clamps}
-use Rattle.windows.specs.Sets.{eqZ, has, In, Within, Above, Rising, up-from, natural, count, range, between, least-on, least-by, greatest-on, greatest-by, least, greatest, hull, meet, remove}
+use Rattle.windows.specs.Sets.{eqZ, has, In, Within, Above, Rising, up-from, count, range, between, least-on, least-by, greatest-on, greatest-by, least, greatest, hull, meet, remove}
 
 -- ---- tests
 pub leZ-tells : (a b : ℤ) → ((leZ a b ≡ true) × (a ≤ℤ b)) ⊎ ((leZ a b ≡ false) × (b <ℤ a))

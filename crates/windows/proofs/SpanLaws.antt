@@ -2,26 +2,28 @@
 use mathlib.Core.Path.{_≡_, refl, sym, ap, ap₂, subst, _∙_}
 use mathlib.Core.List.{List, [], _∷_}
 use mathlib.Core.Logic.{_⊎_, inl, inr}
-use mathlib.Core.Bool.{Bool, true, false, not, cond, _&&_, _||_}
-use Prim.Native.Nat.{ℕ, zero, suc, _+_, _≤_, _<_}
+use mathlib.Core.Bool.{Bool, true, false, cond, _&&_}
+use Prim.Native.Nat.{ℕ, zero, suc, _≤_}
 use native.Mathlib.Omega.{arith}
 use lib.Dec.{eqb}
 use lib.ListN.{length}
 use mir.Syntax.{w32}
 use mir.Val.{ofZ, toZ, SFits}
-use lib.IntN.{ℤ, pos, negsuc, natAbs, _+ℤ_, _-ℤ_}
-use lib.Signed.{leZ, ltZ, _<ℤ_, _≤ℤ_}
+use lib.IntN.{ℤ, pos, negsuc, _+ℤ_, _-ℤ_}
+use lib.Signed.{_<ℤ_, _≤ℤ_}
 use Rattle.std.specs.Numbers.{minZ, maxZ}
-use Rattle.std.specs.shelf.Lists.{kept-by}
 use Rattle.std.specs.declared.option.Option.{Option}
 use Rattle.std.specs.declared.option.Option.the-variants.{Some, None}
-use Rattle.std.proofs.shelf.Signed.{ints, clamps, toZ-ofZ}
+use Rattle.std.specs.Options.{Cases}
+use Rattle.std.proofs.shelf.Signed.{ints, toZ-ofZ}
 use Rattle.std.proofs.shelf.Ways.{tells}
-use Rattle.windows.specs.Sets.{eqZ, has, In, Within, Rising, up-from, count, range, between, hull, meet, remove, sole-of, same-set}
-use Rattle.windows.specs.Kinds.{Kind, Of, Proper, Smallest, all-but, spans}
-use Rattle.windows.specs.Rows.{Stands, span-stands, span-numbers}
+use Rattle.windows.specs.Sets.{eqZ, has, In, Within, up-from, count, range, hull, meet, remove, sole-of, same-set}
+use Rattle.windows.specs.Kinds.{Of, Proper, Smallest, all-but, spans}
+use Rattle.windows.specs.Rows.{Stands, Checked, span-stands, span-numbers}
 use Rattle.windows.specs.declared.span.SpanRow.{SpanRow}
-use Rattle.windows.proofs.SetLaws.{tests, never, bool-same, eqZ-tells, between-is, is-between, has-range, rising-range, range-none, range-some, count-is, length-range, kept-range, Convex, hull-convex, convex-hull, within-hull, hull-mono, hull-again, rising-hull, hull-none, within-both, rising-same, rising-kept, has-remove}
+use Rattle.windows.specs.declared.span.Span.{Span}
+use Rattle.windows.proofs.KindLaws.{smallest-from, but-none}
+use Rattle.windows.proofs.SetLaws.{tests, never, bool-same, eqZ-tells, between-is, is-between, has-range, rising-range, range-some, count-is, length-range, kept-range, Convex, hull-convex, convex-hull, within-hull, hull-mono, hull-again, rising-hull, hull-none, within-both, has-remove}
 
 pub spans-proper : Proper spans
 spans-proper = record { holds = within-hull; mono = hull-mono; again = hull-again; rising = λ s r. rising-hull s; none = hull-none; from = omega (arith, ints); to = omega (arith, ints) }
@@ -48,17 +50,25 @@ pub row-none : (r : SpanRow) → span-stands r ≡ false → span-numbers r ≡ 
 unfolding span-numbers
 row-none r e = rw e refl
 
--- a row that passes its check stands for a span
-pub row-of : (r : SpanRow) → (span-numbers r ≡ [] → ⊥) → Of spans (span-numbers r)
-row-of r h = go (span-stands r) refl
+-- the check tells what a row stands for
+pub checked : (r : SpanRow) → Checked r (span-stands r)
+checked r = go (span-stands r) refl
   where
-    go : (t : Bool) → span-stands r ≡ t → Of spans (span-numbers r)
+    go : (t : Bool) → span-stands r ≡ t → Checked r t
     go true e =
         let a : r .lo ≤ℤ r .hi = grind (arith, ints, tests) in
         let b : negsuc 999999 ≤ℤ r .lo = grind (arith, ints, tests) in
         let c : r .hi ≤ℤ pos 1000000 = grind (arith, ints, tests) in
-        subst (Of spans) (sym (row-is r a b c)) (span-of (r .lo) (r .hi) a b c)
-    go false e = absurd (h (row-none r e))
+        ((a, b, c), row-is r a b c)
+    go false e = row-none r e
+
+-- a row that passes its check stands for a span
+pub row-of : (r : SpanRow) → (span-numbers r ≡ [] → ⊥) → Of spans (span-numbers r)
+row-of r h = go (span-stands r) (checked r)
+  where
+    go : (t : Bool) → Checked r t → Of spans (span-numbers r)
+    go true (s, e) = subst (Of spans) (sym e) (span-of (r .lo) (r .hi) (s .0) (s .1) (s .2))
+    go false e = absurd (h e)
 
 -- ---- calls
 pub meet-range : (a b c d : ℤ) → meet (range a b) (range c d) ≡ range (maxZ a c) (minZ b d)
@@ -102,6 +112,11 @@ all-but-ends lo hi v o = all-but-range lo hi v _ _ o (low (eqZ-tells v lo)) (hig
     high : ((eqZ v hi ≡ true) × (v ≡ hi)) ⊎ ((eqZ v hi ≡ false) × (v ≡ hi → ⊥)) → ((v ≡ hi) × (cond (eqZ v hi) (hi +ℤ negsuc 0) hi ≡ hi -ℤ pos 1)) ⊎ ((v ≡ hi → ⊥) × (cond (eqZ v hi) (hi +ℤ negsuc 0) hi ≡ hi))
     high (inl (e, q)) = inl (q, rw e refl)
     high (inr (e, q)) = inr (q, rw e refl)
+
+-- the span of a set that is all numbers but v is the smallest that holds them
+pub span-smallest : (o : Option Span) (s : List ℤ) (v : ℤ) → Of spans s → Cases o (all-but spans s v ≡ []) (λ w. range (w .lo) (w .hi) ≡ all-but spans s v) → Cases o (remove v s ≡ []) (λ w. Smallest spans (remove v s) (range (w .lo) (w .hi)))
+span-smallest None s v o e = but-none spans spans-proper s v e
+span-smallest (Some w) s v o e = smallest-from spans spans-proper s _ v o (range-some (w .lo) (w .hi) (w .stands .0)) e
 
 -- they are in range
 pub moved-low : (lo hi v : ℤ) → Stands lo hi → (lo ≤ℤ cond (eqZ v lo) (lo +ℤ pos 1) lo) × (cond (eqZ v lo) (lo +ℤ pos 1) lo ≤ℤ pos 1000001)
@@ -165,21 +180,19 @@ range-ends a b c d h k e = sym (same-range a b c d h k) ∙ subst (λ s. same-se
 
 -- two rows that stand for one window are one row
 pub row-faithful : (a b : SpanRow) → (span-numbers a ≡ [] → ⊥) → span-numbers a ≡ span-numbers b → a ≡ b
-row-faithful a b h q = go (span-stands a) (span-stands b) refl refl
+row-faithful a b h q = go (span-stands a) (span-stands b) (checked a) (checked b)
   where
     ends : a .lo ≡ b .lo → a .hi ≡ b .hi → a ≡ b
     ends x y = ap₂ {C = SpanRow} (λ (l h : ℤ). record { lo = l; hi = h }) x y
 
-    go : (t u : Bool) → span-stands a ≡ t → span-stands b ≡ u → a ≡ b
-    go true true e f =
-        let i = row-is a (grind (arith, ints, tests)) (grind (arith, ints, tests)) (grind (arith, ints, tests)) in
-        let j = row-is b (grind (arith, ints, tests)) (grind (arith, ints, tests)) (grind (arith, ints, tests)) in
-        let r = range-ends (a .lo) (a .hi) (b .lo) (b .hi) (grind (arith, ints, tests)) (grind (arith, ints, tests)) (sym i ∙ q ∙ j) in
+    go : (t u : Bool) → Checked a t → Checked b u → a ≡ b
+    go true true (s, i) (t, j) =
+        let r = range-ends (a .lo) (a .hi) (b .lo) (b .hi) (s .0) (t .0) (sym i ∙ q ∙ j) in
         let x : a .lo ≡ b .lo = grind (arith, tests) in
         let y : a .hi ≡ b .hi = grind (arith, tests) in
         ends x y
-    go true false e f = absurd (h (q ∙ row-none b f))
-    go false u e f = absurd (h (row-none a e))
+    go true false s f = absurd (h (q ∙ f))
+    go false u e f = absurd (h e)
 
 -- ---- the same at the machine's numbers
 pub back : (lo hi : ℤ) → Stands lo hi → (toZ w32 (ofZ w32 lo) ≡ lo) × (toZ w32 (ofZ w32 hi) ≡ hi)

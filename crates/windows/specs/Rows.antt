@@ -1,6 +1,7 @@
 -- The numbers of a plain row of the span kind.
+use mathlib.Core.Path.{_≡_}
 use mathlib.Core.List.{List, []}
-use mathlib.Core.Bool.{Bool, cond, _&&_}
+use mathlib.Core.Bool.{Bool, true, false, cond, _&&_}
 use lib.IntN.{ℤ, pos, negsuc}
 use lib.Signed.{leZ, _≤ℤ_}
 use Rattle.windows.specs.Sets.{range}
@@ -17,3 +18,8 @@ span-stands r = leZ (r .lo) (r .hi) && (leZ (negsuc 999999) (r .lo) && leZ (r .h
 -- what a row stands for: all numbers between its ends, none where it fails its check
 unfoldable pub span-numbers : SpanRow → List ℤ
 span-numbers r = cond (span-stands r) (range (r .lo) (r .hi)) []
+
+-- what the check of a row tells
+abbrev pub Checked : SpanRow → Bool → Type 0
+Checked r true = Stands (r .lo) (r .hi) × (span-numbers r ≡ range (r .lo) (r .hi))
+Checked r false = span-numbers r ≡ []

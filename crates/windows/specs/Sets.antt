@@ -1,11 +1,11 @@
 -- Sets of whole numbers, as rising lists: the meaning of a window.
 use mathlib.Core.Path.{_≡_}
 use mathlib.Core.List.{List, [], _∷_}
-use mathlib.Core.Bool.{Bool, true, false, not, cond, _&&_, _||_}
+use mathlib.Core.Bool.{Bool, true, false, not, _&&_, _||_}
 use Prim.Native.Nat.{ℕ, zero, suc, _+_}
 use lib.ListN.{length}
 use lib.IntN.{ℤ, pos, negsuc, _+ℤ_, _-ℤ_}
-use lib.Signed.{leZ, ltZ, _<ℤ_, _≤ℤ_}
+use lib.Signed.{leZ, _<ℤ_}
 use Rattle.std.specs.Numbers.{minZ, maxZ}
 use Rattle.std.specs.shelf.Lists.{kept-by}
 use Rattle.std.specs.declared.option.Option.{Option}
@@ -106,11 +106,6 @@ same-set [] [] = true
 same-set [] (y ∷ t) = false
 same-set (x ∷ s) [] = false
 same-set (x ∷ s) (y ∷ t) = eqZ x y && same-set s t
-
--- is there a number
-abbrev pub some-left : List ℤ → Bool
-some-left [] = false
-some-left (x ∷ s) = true
 
 -- how many numbers the sets have together
 abbrev pub sizes : List (List ℤ) → ℕ

@@ -1,6 +1,5 @@
-use mathlib.Core.Path.{_≡_, refl, sym, ap, _∙_}
-use Prim.Native.Nat.{_≤_, _<_, _+_}
-use lib.ListN.{length, length-drop}
+use mathlib.Core.Path.{ap}
+use lib.ListN.{length}
 use native.Mathlib.Omega.{arith}
 use Rattle.windows.proofs.KindLaws.{few}
 use Rattle.windows.proofs.SizeLaws.{sizes-more, sizes-all}

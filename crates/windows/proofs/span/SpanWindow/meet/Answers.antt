@@ -1,41 +1,25 @@
-use mathlib.Core.Path.{_≡_, refl, sym, ap, _∙_}
-use mathlib.Core.Logic.{_⊎_, inl, inr}
-use mathlib.Core.Bool.{Bool, true, false, _&&_}
-use Prim.Native.Nat.{ℕ, _≤_, _<_}
-use native.Mathlib.Omega.{arith}
+use mathlib.Core.Path.{_≡_, subst, sym, ap, _∙_}
+use mathlib.Core.List.{[]}
 use borrow.Author.Needs.{needs}
 use mir.Syntax.{w32}
-use mir.Val.{ofZ, toZ, SFits}
-use lib.Dec.{eqb}
-use lib.IntN.{ℤ, pos, negsuc, _+ℤ_, _-ℤ_}
-use lib.Signed.{leZ, _≤ℤ_, _<ℤ_}
-use Rattle.std.specs.Numbers.{minZ, maxZ}
-use Rattle.std.proofs.shelf.Signed.{ints, clamps, toZ-ofZ}
-use Rattle.std.proofs.shelf.Ways.{tells}
+use mir.Val.{SFits}
+use Rattle.std.specs.Options.{Cases}
+use Rattle.std.proofs.shelf.Signed.{toZ-ofZ}
 use Rattle.windows.specs.Sets.{range, meet}
-use Rattle.windows.specs.Rows.{Stands, span-stands, span-numbers}
-use Rattle.windows.proofs.SetLaws.{tests, range-none}
-use Rattle.windows.proofs.SpanLaws.{back, alike-is, row-is, row-none, meet-range, sole-range-one, sole-range-more, size-range, all-but-range}
+use Rattle.windows.proofs.SpanLaws.{fits-lo, fits-hi, meet-range}
 use Rattle.windows.proofs.span.SpanWindow.meet.Needs as need
 
-pub returns-then-lo-hi : need.returns-then-lo-hi
-returns-then-lo-hi c =
-    let a = back _ _ (c .args .self .now .stands) in
-    let b = back _ _ (c .args .other .now .stands) in
-    let f : SFits w32 (c .max-lo .result) = search needs in
-    let g : SFits w32 (c .min-hi .result) = search needs in
-    let x = toZ-ofZ w32 (c .max-lo .result) f in
-    let y = toZ-ofZ w32 (c .min-hi .result) g in
-    let s = meet-range (c .args .self .now .lo) (c .args .self .now .hi) (c .args .other .now .lo) (c .args .other .now .hi) in
-    let m = c .max-lo .ensures .value in
-    let n = c .min-hi .ensures .value in
-    cc (a .0, a .1, b .0, b .1)
-
-pub returns-else-lo-hi : need.returns-else-lo-hi
-returns-else-lo-hi c =
-    let a = c .args .self .now .stands in
-    let b = c .args .other .now .stands in
-    let m = c .max-lo .ensures .value in
-    let n = c .min-hi .ensures .value in
-    let h = c .if-lo-hi .left in
-    meet-range (c .args .self .now .lo) (c .args .self .now .hi) (c .args .other .now .lo) (c .args .other .now .hi) ∙ range-none _ _ (omega (arith, ints, clamps))
+pub returns : need.returns
+returns c =
+    let a = c .args .self .now in
+    let b = c .args .other .now in
+    let al = fits-lo _ _ (a .stands) in
+    let ah = fits-hi _ _ (a .stands) in
+    let bl = fits-lo _ _ (b .stands) in
+    let bh = fits-hi _ _ (b .stands) in
+    let gl : SFits w32 (c .max .result) = search needs in
+    let gh : SFits w32 (c .min .result) = search needs in
+    let l = simp toZ-ofZ at (c .max .ensures .value) in
+    let h = simp toZ-ofZ at (c .min .ensures .value) in
+    let q : range (c .max .result) (c .min .result) ≡ meet (range (a .lo) (a .hi)) (range (b .lo) (b .hi)) = ap (λ z. range z (c .min .result)) l ∙ ap (range _) h ∙ sym (meet-range (a .lo) (a .hi) (b .lo) (b .hi)) in
+    subst (λ u. Cases (c .from-ends .result) (u ≡ []) (λ w. range (w .lo) (w .hi) ≡ u)) q (simp toZ-ofZ at (c .from-ends .ensures))
