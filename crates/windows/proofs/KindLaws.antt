@@ -91,9 +91,6 @@ pub rising-meet : (s t : List ℤ) → Rising s → Rising (meet s t)
 unfolding meet
 rising-meet s t r = rising-kept (has t) s r
 
-pub meet-either : (s t : List ℤ) → Rising s → Rising t → meet s t ≡ meet t s
-meet-either s t r u = within-both (meet s t) (meet t s) (rising-meet s t r) (rising-meet t s u) (λ v i. let b = meet-in s t v i in in-meet t s v (b .1) (b .0)) (λ v i. let b = meet-in t s v i in in-meet s t v (b .1) (b .0))
-
 pub meet-closed : (k : Kind) → Proper k → (s t : List ℤ) → Of k s → Of k t → k .around (meet s t) ≡ meet s t
 meet-closed k c s t o p = within-both (k .around (meet s t)) (meet s t) (c .rising (meet s t) (rising-meet s t (o .rising))) (rising-meet s t (o .rising)) there (c .holds (meet s t))
   where
