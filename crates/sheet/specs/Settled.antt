@@ -23,7 +23,6 @@ use Rattle.plan.specs.declared.answer.Verdict.{Verdict}
 use Rattle.records.specs.declared.refusal.SheetRefusal.the-variants as sheet
 use Rattle.listing.specs.Lines.{span-look, listing, Printed, printed}
 use Rattle.sheet.specs.Reading.{Held, roomy}
-use Rattle.sheet.specs.declared.fault.Cause.{Cause}
 use Rattle.sheet.specs.declared.fault.Cause.the-variants as cause
 use Rattle.sheet.specs.declared.fault.Fault.{Fault}
 use Rattle.sheet.specs.declared.states.Read.{Read}

@@ -3,10 +3,10 @@ ghost use mathlib.Core.Path.{_≡_};
 ghost use mathlib.Core.List.{map};
 ghost use lib.ListN.{length, take, drop};
 ghost use Rattle.windows.specs.Rows.{span-numbers};
-ghost use Rattle.rulebook.specs.Answers.{reach-of};
 ghost use Rattle.plan.specs.Plans.{Lends-on};
 ghost use Rattle.plan.specs.Refusals.{make-refused};
 ghost use Rattle.books.specs.DayBooks.{day-rules};
+ghost use Rattle.listing.specs.Lines.{span-look, listing, printed};
 ghost use Rattle.sheet.specs.Reading.{held};
 ghost use Rattle.sheet.specs.Settled.{ran, Untouched, given-to, by-plan, settled, left, printed-sheet};
 use super::Read;
@@ -118,6 +118,20 @@ fn by_plan(at: usize, answer: Result<Verdict, PlanRefusal>) -> Result<Verdict, F
     }
 }
 
+// Prints the listing of the first n rows beside the given ones.
+fn print_front(
+    verdict: Verdict,
+    rows: &[SpanRow],
+    n: usize,
+    given: &[SpanRow],
+    out: &mut [u8],
+) -> Option<usize>
+    ensures { λ r. ⌜ printed (listing span-look verdict (take n (now (rows .entry))) (now (given .entry))) (now (out .entry)) ≡ record { answer = r; after = now (out .exit) } ⌝ }
+{
+    let end = n.min(rows.len());
+    print_listing(verdict, &rows[0..end], given, out)
+}
+
 impl Read {
     // Settles the sheet's windows by its rules; the windows as the sheet gave them are then at the store's front.
     pub fn settle(&self, lent: Lent) -> Result<Verdict, Fault>
@@ -142,8 +156,7 @@ impl Read {
             let cause = Cause::Plan(PlanRefusal::Store);
             return Err(Fault { cause, at });
         }
-        let n = self.windows.min(lent.rows.len());
-        match print_listing(verdict, &lent.rows[0..n], lent.store, out) {
+        match print_front(verdict, lent.rows, self.windows, lent.store, out) {
             Some(length) => Ok(length),
             None => Err(Fault {
                 cause: Cause::Sheet(SheetRefusal::Room),

@@ -2,7 +2,7 @@ use mathlib.Core.Path.{_≡_, sym, ap, _∙_}
 use mathlib.Core.List.{List, map}
 use Prim.Native.Nat.{_-_}
 use native.Mathlib.Omega.{arith}
-use lib.ListN.{length, take, drop, length-take}
+use lib.ListN.{length, length-take}
 use Rattle.windows.specs.Rows.{span-numbers}
 use Rattle.windows.specs.declared.span.SpanRow.{SpanRow}
 use Rattle.books.specs.DayBooks.{day-rules}

@@ -1,4 +1,4 @@
-use mathlib.Core.Path.{_≡_, sym, ap, subst, _∙_}
+use mathlib.Core.Path.{sym, ap, subst, _∙_}
 use mathlib.Core.List.{List, map}
 use Rattle.windows.specs.Rows.{span-numbers}
 use Rattle.windows.specs.declared.span.SpanRow.{SpanRow}
