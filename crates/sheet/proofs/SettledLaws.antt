@@ -28,7 +28,7 @@ use Rattle.plan.specs.declared.answer.Verdict.{Verdict}
 use Rattle.plan.specs.Views.{stored}
 use Rattle.sheet.specs.Reading.{Held, roomy}
 use Rattle.sheet.specs.declared.states.Read.{Read}
-use Rattle.sheet.specs.Settled.{Ran, ran-unless, ran, given-to, Untouched, windows-of, by-plan, Settling, settled-to, settled, left}
+use Rattle.sheet.specs.Settled.{Ran, ran-unless, ran, ran-to, given-to, Untouched, windows-of, by-plan, Settling, settled-to, settled, left}
 use Rattle.sheet.specs.declared.fault.Fault.{Fault}
 use Rattle.windows.specs.Rows.{span-numbers}
 
@@ -124,7 +124,7 @@ front-untouched (Ok v) rows new k u = tt
 front-untouched (Err f) rows new k u = ap (λ x. x ++ drop k rows) u ∙ take-append-drop k rows
 
 -- ---- a sheet
-pub settled-left : (s : Read) (l : Held) (a : Result Verdict PlanRefusal) (rows store : List SpanRow) (r : Result Verdict Fault) → roomy l ≡ true → ran (l .rules) (windows-of s l) (length (l .store)) ≡ record { answer = a; after = map span-numbers (take (s .windows) rows) } → drop (s .windows) rows ≡ drop (s .windows) (l .rows) → store ≡ given-to a (l .store) (take (s .windows) (l .rows)) → r ≡ by-plan (s .at) a → settled s l ≡ left s r (l .rules) rows store
+pub settled-left : (s : Read) (l : Held) (a : Result Verdict PlanRefusal) (rows store : List SpanRow) (r : Result Verdict Fault) → roomy l ≡ true → ran (l .rules) (windows-of s l) (length (l .store)) ≡ ran-to a (take (s .windows) rows) → drop (s .windows) rows ≡ drop (s .windows) (l .rows) → store ≡ given-to a (l .store) (take (s .windows) (l .rows)) → r ≡ by-plan (s .at) a → settled s l ≡ left s r (l .rules) rows store
 settled-left s l a rows store r w e o t q =
     ap (settled-to s l) (cond-true (roomy l) _ _ w ∙ e)
     ∙ ap {B = Settling} (λ (x : List SpanRow). record { answer = by-plan (s .at) a; rules = l .rules; table = map span-numbers (take (s .windows) rows); others = x; store = given-to a (l .store) (take (s .windows) (l .rows)) }) (sym o)

@@ -42,6 +42,14 @@ ran-unless None rules T = record { answer = Ok (settling first (making rules T) 
 abbrev pub ran : List Rule → Table → ℕ → Ran
 ran rules T long = ran-unless (make-refused rules T long) rules T
 
+-- the same over rows and a store
+abbrev pub rows-ran : List Rule → List SpanRow → List SpanRow → Ran
+rows-ran rules rows store = ran rules (map span-numbers rows) (length store)
+
+-- a settling with this answer that left these rows
+abbrev pub ran-to : Result Verdict PlanRefusal → List SpanRow → Ran
+ran-to r rows = record { answer = r; after = map span-numbers rows }
+
 -- a refused settling leaves the very rows
 abbrev pub Untouched : {A E : Type 0} → Result A E → List SpanRow → List SpanRow → Type 0
 Untouched (Ok v) old new = Unit {0}

@@ -9,7 +9,7 @@ use Rattle.plan.specs.Views.{stored}
 use Rattle.windows.specs.Rows.{span-numbers}
 use Rattle.windows.specs.declared.span.SpanRow.{SpanRow}
 use Rattle.books.specs.DayBooks.{day-rules}
-use Rattle.sheet.specs.Settled.{Ran, ran, Untouched}
+use Rattle.sheet.specs.Settled.{ran, ran-to, Untouched}
 use Rattle.sheet.proofs.SettledLaws.{ran-asked, stores, given-stored, copied, copied-long}
 use Rattle.sheet.proofs.states.settling.settle_rows.Needs as need
 
@@ -17,7 +17,7 @@ pub returns-in-Some : need.returns-in-Some
 returns-in-Some c =
     let e = c .make-refusal .ensures in
     let asked = ran-asked (day-rules (c .args .book)) (map span-numbers (c .args .rows .now)) (length (c .args .store .now)) (c .in-Some .refused) (c .in-Some .ensures tt .refusal) in
-    record { equation = asked ∙ ap {B = Ran} (λ (l : List SpanRow). record { answer = Err (c .in-Some .refused); after = map span-numbers l }) (sym (e .rows)); rows = e .rows; store = e .store }
+    record { equation = asked ∙ ap (ran-to (Err (c .in-Some .refused))) (sym (e .rows)); rows = e .rows; store = e .store }
 
 pub returns-then-n-store : need.returns-then-n-store
 returns-then-n-store c =
