@@ -1,5 +1,6 @@
 // How the rows of a kind are shown.
 ghost use mathlib.Core.Path.{_≡_};
+ghost use Rattle.windows.specs.Sets.{eqZ};
 ghost use Rattle.listing.specs.Lines.{Look, span-look};
 use windows::SpanRow;
 
@@ -26,6 +27,12 @@ pub trait Shown: Copy {
         ensures { λ r. ⌜ r ≡ look .one (now (self .entry)) ⌝ };
 }
 
+fn same_number(a: i32, b: i32) -> bool
+    ensures { λ r. ⌜ r ≡ eqZ a b ⌝ }
+{
+    a == b
+}
+
 pub impl Shown for SpanRow as SpanShown {
     ghost look = { span-look };
 
@@ -34,10 +41,10 @@ pub impl Shown for SpanRow as SpanShown {
     }
 
     fn is_same(&self, other: &SpanRow) -> bool {
-        self.lo == other.lo && self.hi == other.hi
+        same_number(self.lo, other.lo) && same_number(self.hi, other.hi)
     }
 
     fn is_one(&self) -> bool {
-        self.lo == self.hi
+        same_number(self.lo, self.hi)
     }
 }

@@ -1,7 +1,7 @@
 -- Settling rows: a plan that is made is not refused when it is settled.
 use mathlib.Core.Path.{_≡_, refl, sym, ap, ap₂, subst, _∙_}
 use mathlib.Core.Logic.{_⊎_, inl, inr}
-use mathlib.Core.List.{List, [], map, _++_, append-nil}
+use mathlib.Core.List.{List, map, _++_, append-nil}
 use mathlib.Core.Bool.{Bool, true, false, cond}
 use Prim.Native.Nat.{ℕ, _+_, _-_, _*_, _<_, _≤_, min}
 use native.Mathlib.Omega.{arith}
@@ -26,10 +26,9 @@ use Rattle.plan.specs.declared.answer.PlanRefusal.{PlanRefusal}
 use Rattle.plan.specs.declared.answer.PlanRefusal.the-variants as plan
 use Rattle.plan.specs.declared.answer.Verdict.{Verdict}
 use Rattle.plan.specs.Views.{stored}
-use Rattle.listing.specs.Lines.{span-look, listing, Printed, printed}
 use Rattle.sheet.specs.Reading.{Held, roomy}
 use Rattle.sheet.specs.declared.states.Read.{Read}
-use Rattle.sheet.specs.Settled.{Ran, ran-unless, ran, given-to, Untouched, windows-of, by-plan, Settling, settled-to, settled, left, printing, printed-sheet}
+use Rattle.sheet.specs.Settled.{Ran, ran-unless, ran, ran-to, given-to, Untouched, windows-of, by-plan, Settling, settled-to, settled, left}
 use Rattle.sheet.specs.declared.fault.Fault.{Fault}
 use Rattle.windows.specs.Rows.{span-numbers}
 
@@ -125,7 +124,7 @@ front-untouched (Ok v) rows new k u = tt
 front-untouched (Err f) rows new k u = ap (λ x. x ++ drop k rows) u ∙ take-append-drop k rows
 
 -- ---- a sheet
-pub settled-left : (s : Read) (l : Held) (a : Result Verdict PlanRefusal) (rows store : List SpanRow) (r : Result Verdict Fault) → roomy l ≡ true → ran (l .rules) (windows-of s l) (length (l .store)) ≡ record { answer = a; after = map span-numbers (take (s .windows) rows) } → drop (s .windows) rows ≡ drop (s .windows) (l .rows) → store ≡ given-to a (l .store) (take (s .windows) (l .rows)) → r ≡ by-plan (s .at) a → settled s l ≡ left s r (l .rules) rows store
+pub settled-left : (s : Read) (l : Held) (a : Result Verdict PlanRefusal) (rows store : List SpanRow) (r : Result Verdict Fault) → roomy l ≡ true → ran (l .rules) (windows-of s l) (length (l .store)) ≡ ran-to a (take (s .windows) rows) → drop (s .windows) rows ≡ drop (s .windows) (l .rows) → store ≡ given-to a (l .store) (take (s .windows) (l .rows)) → r ≡ by-plan (s .at) a → settled s l ≡ left s r (l .rules) rows store
 settled-left s l a rows store r w e o t q =
     ap (settled-to s l) (cond-true (roomy l) _ _ w ∙ e)
     ∙ ap {B = Settling} (λ (x : List SpanRow). record { answer = by-plan (s .at) a; rules = l .rules; table = map span-numbers (take (s .windows) rows); others = x; store = given-to a (l .store) (take (s .windows) (l .rows)) }) (sym o)
@@ -135,7 +134,3 @@ settled-left s l a rows store r w e o t q =
 pub plan-untouched : (at : ℕ) (a : Result Verdict PlanRefusal) (r : Result Verdict Fault) (old new : List SpanRow) → r ≡ by-plan at a → Untouched a old new → Untouched r old new
 plan-untouched at (Ok v) r old new q u = subst (λ (x : Result Verdict Fault). Untouched x old new) (sym q) tt
 plan-untouched at (Err f) r old new q u = subst (λ (x : Result Verdict Fault). Untouched x old new) (sym q) u
-
--- ---- printing
-pub printed-is : (s : Read) (l : Held) (v : Verdict) (out : List ℕ) (part : List SpanRow) (p : Printed) → roomy l ≡ true → part ≡ take (s .windows) (l .rows) → printed (listing span-look v part (l .store)) out ≡ p → printed-sheet s l v out ≡ printing s p (p .answer)
-printed-is s l v out part p r e q = cond-true (roomy l) _ _ r ∙ ap (λ (x : Printed). printing s x (x .answer)) (ap (λ t. printed (listing span-look v t (l .store)) out) (sym e) ∙ q)

@@ -2,7 +2,7 @@
 use mathlib.Core.Path.{_≡_, refl, sym, ap, _∙_}
 use mathlib.Core.Bool.{cond}
 use mathlib.Core.List.{List, [], _∷_}
-use Prim.Native.Nat.{ℕ, zero, suc, _+_, _-_, _≤_, _<_}
+use Prim.Native.Nat.{ℕ, _+_, _-_, _≤_, _<_}
 use native.Mathlib.Omega.{arith}
 use native.Mathlib.Numerals.{add-one}
 use lib.Dec.{leb}
@@ -10,7 +10,6 @@ use lib.IntN.{ℤ}
 use lib.ListN.{length, getD, set, take, drop}
 use mir.Syntax.{w32}
 use mir.Val.{SFits, toZ, ofZ}
-use Rattle.std.proofs.shelf.Parts.{between-to-end}
 use Rattle.std.proofs.shelf.Signed.{toZ-ofZ}
 use Rattle.std.proofs.shelf.Tests.{cond-true, le-leb}
 use Rattle.std.specs.declared.option.Option.{Option}
@@ -18,6 +17,7 @@ use Rattle.std.specs.declared.option.Option.the-variants.{Some, None}
 use Rattle.sums.specs.declared.posted.Term.{Term}
 use Rattle.sums.specs.declared.posted.PostedSum.{PostedSum}
 use Rattle.records.specs.Bytes.{int32}
+use Rattle.records.proofs.Cuts.{from-is}
 use Rattle.sheet.specs.Items.{terms, placed, posted-sum}
 
 -- the first term of at least five bytes
@@ -40,21 +40,11 @@ terms-short (a ∷ b ∷ c ∷ []) h = refl
 terms-short (a ∷ b ∷ c ∷ d ∷ []) h = refl
 terms-short (a ∷ b ∷ c ∷ d ∷ e ∷ s) h = absurd (omega arith)
 
--- what a slice pattern binds after n bytes is the rest
-pub rest-is : (n : ℕ) (s : List ℕ) → take (length s - n) (drop n s) ≡ drop n s
-rest-is n s = between-to-end s n (length s) (omega arith)
-
--- a write past the end changes nothing
-pub set-past : {X : Type 0} (xs : List X) (n : ℕ) (x : X) → length xs ≤ n → set xs n x ≡ xs
-set-past [] n x h = refl
-set-past (y ∷ xs) zero x h = absurd (omega arith)
-set-past (y ∷ xs) (suc n) x h = ap (λ l. y ∷ l) (set-past xs n x (omega arith))
-
 -- one turn of the loop: the first term of s is placed, and the rest of s is left
 pub placed-more : (out new : List Term) (n : ℕ) (s : List ℕ) (t : Term) (all : List Term) → 5 ≤ length s → t ≡ first s → new ≡ set out n t → placed out n (terms s) ≡ all → placed new (n + 1) (terms (take (length s - 5) (drop 5 s))) ≡ all
 placed-more out new n s t all long e f h =
     ap (λ l. placed l (n + 1) (terms (take (length s - 5) (drop 5 s)))) (f ∙ ap (set out n) e)
-    ∙ ap (λ l. placed (set out n (first s)) (n + 1) (terms l)) (rest-is 5 s)
+    ∙ ap (λ l. placed (set out n (first s)) (n + 1) (terms l)) (from-is s 5)
     ∙ ap (λ m. placed (set out n (first s)) m (terms (drop 5 s))) (add-one n)
     ∙ ap (placed out n) (sym (terms-step s long))
     ∙ h
@@ -62,7 +52,7 @@ placed-more out new n s t all long e f h =
 pub count-more : (n : ℕ) (s : List ℕ) (all : ℕ) → 5 ≤ length s → n + length (terms s) ≡ all → (n + 1) + length (terms (take (length s - 5) (drop 5 s))) ≡ all
 count-more n s all long h =
     let e = ap length (terms-step s long) in
-    let r = ap (λ l. length (terms l)) (rest-is 5 s) in
+    let r = ap (λ l. length (terms l)) (from-is s 5) in
     omega arith
 
 -- the term that the code makes

@@ -1,17 +1,15 @@
 -- Rows and rules as a sheet takes them.
-use mathlib.Core.Path.{_≡_, refl, sym, ap, subst, _∙_}
+use mathlib.Core.Path.{_≡_, refl, sym, ap, _∙_}
 use mathlib.Core.List.{List, []}
-use mathlib.Core.Bool.{Bool, true, false, cond}
-use Prim.Native.Nat.{ℕ, _≤_, _<_}
+use mathlib.Core.Bool.{Bool, true, false}
+use Prim.Native.Nat.{ℕ}
 use native.Mathlib.Omega.{arith}
 use lib.IntN.{ℤ, pos, negsuc}
-use lib.ListN.{length, take, length-take}
+use lib.ListN.{length}
 use lib.Signed.{_≤ℤ_}
 use Rattle.std.specs.declared.option.Option.{Option}
 use Rattle.std.specs.declared.option.Option.the-variants.{Some, None}
-use Rattle.std.specs.declared.result.Result.{Result}
 use Rattle.std.specs.declared.result.Result.the-variants.{Ok, Err}
-use Rattle.std.proofs.shelf.Lists.{length-map}
 use Rattle.std.proofs.shelf.Signed.{ints}
 use Rattle.windows.specs.Sets.{range}
 use Rattle.windows.specs.Rows.{Stands, span-stands, span-numbers}
@@ -22,7 +20,7 @@ use Rattle.windows.proofs.SpanLaws.{row-is, row-none}
 use Rattle.rulebook.specs.Rules.{Rule}
 use Rattle.rulebook.specs.Answers.{Posted, posted}
 use Rattle.rulebook.specs.declared.answer.BookRefusal.{BookRefusal}
-use Rattle.rules.specs.Books.{slot-rule, book-refuses}
+use Rattle.rules.proofs.BookLaws.{book-length}
 use Rattle.books.specs.Day.{day-rule}
 use Rattle.books.specs.DayBooks.{day-rules}
 use Rattle.books.specs.declared.book.DayBook.{DayBook}
@@ -52,7 +50,7 @@ pub rules-counted : (b : DayBook) → length (day-rules b) ≡ b .book .len
 rules-counted b =
     let w = b .book .whole in
     let f = b .book .few in
-    omega (arith, length-map (take (b .book .len) (b .book .slots)) (slot-rule day-rule), length-take (b .book .len) (b .book .slots))
+    book-length day-rule (b .book .slots) (b .book .len) (omega arith)
 
 -- a refused posting leaves the rules
 pub refused-rules : (rules after : List Rule) (r : Rule) (o : Option BookRefusal) (f : BookRefusal) → posted rules r o ≡ record { answer = Err f; after = after } → after ≡ rules

@@ -7,7 +7,6 @@ use lib.IntN.{pos}
 use lib.ListN.{length, getD, set, drop, replicate}
 use Rattle.std.specs.declared.option.Option.{Option}
 use Rattle.std.specs.declared.option.Option.the-variants.{Some, None}
-use Rattle.windows.specs.declared.span.SpanRow.{SpanRow}
 use Rattle.sums.specs.declared.posted.Term.{Term}
 use Rattle.sums.specs.declared.posted.PostedSum.{PostedSum}
 use Rattle.books.specs.declared.post.DayPost.the-variants as post

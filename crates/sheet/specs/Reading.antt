@@ -1,5 +1,5 @@
 -- What opening, reading and finishing a sheet do.
-use mathlib.Core.Bool.{Bool, true, false, cond, not, _&&_}
+use mathlib.Core.Bool.{Bool, false, cond, _&&_}
 use mathlib.Core.List.{List, []}
 use Prim.Native.Nat.{ℕ, zero, suc, _+_}
 use lib.Dec.{eqb, ltb, leb}
@@ -119,19 +119,19 @@ pub record Reading : Type 0 where
   pub after : Sheet
 
 -- a refused reading takes nothing
-abbrev pub refused : Sheet → Cause → Reading
-refused s c = record { answer = Err (record { cause = c; at = s .at }); after = s }
+abbrev pub read-refused : Sheet → Cause → Reading
+read-refused s c = record { answer = Err (record { cause = c; at = s .at }); after = s }
 
 abbrev pub read-took : Sheet → Found → Result Sheet Cause → Reading
 read-took s f (Ok t) = record { answer = Ok (taken.Record (f .number)); after = record { at = f .next; stage = t .stage; windows = t .windows; lent = t .lent } }
-read-took s f (Err c) = refused s c
+read-took s f (Err c) = read-refused s c
 
 abbrev pub read-item : Sheet → Found → Option Item → Reading
 read-item s f (Some i) = read-took s f (took s i)
-read-item s f None = refused s (cause.Sheet sheet.Length)
+read-item s f None = read-refused s (cause.Sheet sheet.Length)
 
 abbrev pub read-found : Sheet → Result (Option Found) SheetRefusal → Reading
-read-found s (Err f) = refused s (cause.Sheet f)
+read-found s (Err f) = read-refused s (cause.Sheet f)
 read-found s (Ok None) = record { answer = Ok taken.End; after = s }
 read-found s (Ok (Some f)) = read-item s f (item-of (f .rec))
 

@@ -23,7 +23,6 @@ use Rattle.plan.specs.declared.answer.Verdict.{Verdict}
 use Rattle.records.specs.declared.refusal.SheetRefusal.the-variants as sheet
 use Rattle.listing.specs.Lines.{span-look, listing, Printed, printed}
 use Rattle.sheet.specs.Reading.{Held, roomy}
-use Rattle.sheet.specs.declared.fault.Cause.{Cause}
 use Rattle.sheet.specs.declared.fault.Cause.the-variants as cause
 use Rattle.sheet.specs.declared.fault.Fault.{Fault}
 use Rattle.sheet.specs.declared.states.Read.{Read}
@@ -42,6 +41,14 @@ ran-unless None rules T = record { answer = Ok (settling first (making rules T) 
 -- the same on a board with a store of this length
 abbrev pub ran : List Rule → Table → ℕ → Ran
 ran rules T long = ran-unless (make-refused rules T long) rules T
+
+-- the same over rows and a store
+abbrev pub rows-ran : List Rule → List SpanRow → List SpanRow → Ran
+rows-ran rules rows store = ran rules (map span-numbers rows) (length store)
+
+-- a settling with this answer that left these rows
+abbrev pub ran-to : Result Verdict PlanRefusal → List SpanRow → Ran
+ran-to r rows = record { answer = r; after = map span-numbers rows }
 
 -- a refused settling leaves the very rows
 abbrev pub Untouched : {A E : Type 0} → Result A E → List SpanRow → List SpanRow → Type 0

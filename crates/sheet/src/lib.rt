@@ -13,8 +13,6 @@ pub use fault::FaultPartialEq;
 pub use fault::Layer;
 pub use fault::LayerDebug;
 pub use fault::LayerPartialEq;
-pub use item::Item;
-pub use item::item_of;
 pub use lent::Lent;
 pub use states::Open;
 pub use states::Read;

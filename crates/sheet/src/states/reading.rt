@@ -1,7 +1,6 @@
 // Opening, reading and finishing a sheet.
 ghost use mathlib.Core.Path.{_≡_};
-ghost use mathlib.Core.Bool.{Bool, true, false};
-ghost use Prim.Native.Nat.{_<_, _≤_};
+ghost use Prim.Native.Nat.{_<_};
 ghost use lib.ListN.{length};
 ghost use Rattle.std.specs.Vec.{refused};
 ghost use Rattle.sheet.specs.Reading.{held, opened, view, added, took, outcome, reading, readings, quiet, finished};

@@ -3,12 +3,12 @@ ghost use mathlib.Core.Path.{_≡_};
 ghost use mathlib.Core.List.{map};
 ghost use lib.ListN.{length, take, drop};
 ghost use Rattle.windows.specs.Rows.{span-numbers};
-ghost use Rattle.rulebook.specs.Answers.{reach-of};
 ghost use Rattle.plan.specs.Plans.{Lends-on};
 ghost use Rattle.plan.specs.Refusals.{make-refused};
 ghost use Rattle.books.specs.DayBooks.{day-rules};
+ghost use Rattle.listing.specs.Lines.{span-look, listing, printed};
 ghost use Rattle.sheet.specs.Reading.{held};
-ghost use Rattle.sheet.specs.Settled.{ran, Untouched, given-to, by-plan, settled, left, printed-sheet};
+ghost use Rattle.sheet.specs.Settled.{rows-ran, ran-to, Untouched, given-to, by-plan, settled, left, printed-sheet};
 use super::Read;
 use super::is_roomy;
 use crate::fault::Cause;
@@ -42,7 +42,7 @@ fn make_refusal(book: &DayBook, rows: &mut [SpanRow], store: &mut [SpanRow]) -> 
 
 // Makes a plan of these rules and the board's rows, and settles it.
 fn settle_board(book: DayBook, board: &mut Board<Span>) -> Result<Verdict, PlanRefusal>
-    ensures equation { λ r. ⌜ ran (day-rules book) (map span-numbers (now (now (board .entry) .rows))) (length (now (now (board .entry) .store))) ≡ record { answer = r; after = map span-numbers (now (now (board .exit) .rows)) } ⌝ }
+    ensures equation { λ r. ⌜ rows-ran (day-rules book) (now (now (board .entry) .rows)) (now (now (board .entry) .store)) ≡ ran-to r (now (now (board .exit) .rows)) ⌝ }
     ensures rows { λ r. ⌜ Untouched r (now (now (board .entry) .rows)) (now (now (board .exit) .rows)) ⌝ }
     ensures store { λ _. ⌜ now (now (board .exit) .store) ≡ now (now (board .entry) .store) ⌝ }
     ensures lent { λ _. ⌜ Lends-on (now (board .entry)) (now (board .exit)) ⌝ }
@@ -60,7 +60,7 @@ fn settle_slices(
     rows: &mut [SpanRow],
     store: &mut [SpanRow],
 ) -> Result<Verdict, PlanRefusal>
-    ensures equation { λ r. ⌜ ran (day-rules book) (map span-numbers (now (rows .entry))) (length (now (store .entry))) ≡ record { answer = r; after = map span-numbers (now (rows .exit)) } ⌝ }
+    ensures equation { λ r. ⌜ rows-ran (day-rules book) (now (rows .entry)) (now (store .entry)) ≡ ran-to r (now (rows .exit)) ⌝ }
     ensures rows { λ r. ⌜ Untouched r (now (rows .entry)) (now (rows .exit)) ⌝ }
     ensures store { λ _. ⌜ now (store .exit) ≡ now (store .entry) ⌝ }
 {
@@ -74,7 +74,7 @@ fn settle_rows(
     rows: &mut [SpanRow],
     store: &mut [SpanRow],
 ) -> Result<Verdict, PlanRefusal>
-    ensures equation { λ r. ⌜ ran (day-rules book) (map span-numbers (now (rows .entry))) (length (now (store .entry))) ≡ record { answer = r; after = map span-numbers (now (rows .exit)) } ⌝ }
+    ensures equation { λ r. ⌜ rows-ran (day-rules book) (now (rows .entry)) (now (store .entry)) ≡ ran-to r (now (rows .exit)) ⌝ }
     ensures rows { λ r. ⌜ Untouched r (now (rows .entry)) (now (rows .exit)) ⌝ }
     ensures store { λ r. ⌜ now (store .exit) ≡ given-to r (now (store .entry)) (now (rows .entry)) ⌝ }
 {
@@ -96,7 +96,7 @@ fn settle_front(
     n: usize,
     store: &mut [SpanRow],
 ) -> Result<Verdict, PlanRefusal>
-    ensures equation { λ r. ⌜ ran (day-rules book) (map span-numbers (take n (now (rows .entry)))) (length (now (store .entry))) ≡ record { answer = r; after = map span-numbers (take n (now (rows .exit))) } ⌝ }
+    ensures equation { λ r. ⌜ rows-ran (day-rules book) (take n (now (rows .entry))) (now (store .entry)) ≡ ran-to r (take n (now (rows .exit))) ⌝ }
     ensures others { λ _. ⌜ drop n (now (rows .exit)) ≡ drop n (now (rows .entry)) ⌝ }
     ensures rows { λ r. ⌜ Untouched r (now (rows .entry)) (now (rows .exit)) ⌝ }
     ensures store { λ r. ⌜ now (store .exit) ≡ given-to r (now (store .entry)) (take n (now (rows .entry))) ⌝ }
@@ -116,6 +116,20 @@ fn by_plan(at: usize, answer: Result<Verdict, PlanRefusal>) -> Result<Verdict, F
             at,
         }),
     }
+}
+
+// Prints the listing of the first n rows beside the given ones.
+fn print_front(
+    verdict: Verdict,
+    rows: &[SpanRow],
+    n: usize,
+    given: &[SpanRow],
+    out: &mut [u8],
+) -> Option<usize>
+    ensures { λ r. ⌜ printed (listing span-look verdict (take n (now (rows .entry))) (now (given .entry))) (now (out .entry)) ≡ record { answer = r; after = now (out .exit) } ⌝ }
+{
+    let end = n.min(rows.len());
+    print_listing(verdict, &rows[0..end], given, out)
 }
 
 impl Read {
@@ -142,8 +156,7 @@ impl Read {
             let cause = Cause::Plan(PlanRefusal::Store);
             return Err(Fault { cause, at });
         }
-        let n = self.windows.min(lent.rows.len());
-        match print_listing(verdict, &lent.rows[0..n], lent.store, out) {
+        match print_front(verdict, lent.rows, self.windows, lent.store, out) {
             Some(length) => Ok(length),
             None => Err(Fault {
                 cause: Cause::Sheet(SheetRefusal::Room),

@@ -1,4 +1,4 @@
-use mathlib.Core.Path.{_≡_, refl, sym, ap, _∙_}
+use mathlib.Core.Path.{ap, _∙_}
 use Prim.Native.Nat.{_≤_}
 use borrow.Author.Needs.{needs}
 use lib.IntN.{pos}
@@ -6,8 +6,9 @@ use lib.ListN.{length, replicate}
 use mir.Syntax.{w32}
 use mir.Val.{SFits}
 use Rattle.std.proofs.shelf.Signed.{toZ-ofZ}
+use Rattle.records.proofs.Cuts.{from-is}
 use Rattle.sheet.specs.Items.{terms, placed}
-use Rattle.sheet.proofs.TermLaws.{rest-is, sum-is}
+use Rattle.sheet.proofs.TermLaws.{sum-is}
 use Rattle.sheet.proofs.item.sum_of.Needs as need
 
 pub returns : need.returns
@@ -16,4 +17,4 @@ returns c =
     let z = c .from-le-bytes .result in
     let long : 4 ≤ length p = search needs in
     let fits : SFits w32 z = search needs in
-    sum-is p _ _ _ long (toZ-ofZ w32 z fits ∙ c .from-le-bytes .ensures) (c .terms-of-count .ensures .items ∙ ap (λ l. placed (replicate 8 (record { window = 0; weight = pos 0 })) 0 (terms l)) (rest-is 4 p)) (c .terms-of-count .ensures .count ∙ ap (λ l. length (terms l)) (rest-is 4 p))
+    sum-is p _ _ _ long (toZ-ofZ w32 z fits ∙ c .from-le-bytes .ensures) (c .terms-of-count .ensures .items ∙ ap (λ l. placed (replicate 8 (record { window = 0; weight = pos 0 })) 0 (terms l)) (from-is p 4)) (c .terms-of-count .ensures .count ∙ ap (λ l. length (terms l)) (from-is p 4))

@@ -1,8 +1,8 @@
 use mathlib.Core.Path.{_≡_, sym, ap, _∙_}
 use mathlib.Core.Logic.{inl, inr, ⊎-elim}
-use Prim.Native.Nat.{_<_, _-_}
+use Prim.Native.Nat.{_-_}
 use native.Mathlib.Omega.{arith}
-use lib.ListN.{length, drop}
+use lib.ListN.{drop}
 use Rattle.listing.specs.Lines.{written, lines}
 use Rattle.listing.proofs.Steps.{lines-more, lines-all}
 use Rattle.listing.proofs.text.lines.write_lines.Needs as need

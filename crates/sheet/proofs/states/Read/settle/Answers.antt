@@ -1,7 +1,6 @@
-use mathlib.Core.Path.{_≡_, sym, _∙_, subst}
+use mathlib.Core.Path.{_≡_, sym, _∙_}
 use mathlib.Core.Bool.{true}
 use Rattle.sheet.specs.Reading.{held, roomy}
-use Rattle.sheet.specs.Settled.{Untouched, by-plan}
 use Rattle.sheet.proofs.SettledLaws.{settled-left, plan-untouched}
 use Rattle.sheet.proofs.states.Read.settle.Needs as need
 

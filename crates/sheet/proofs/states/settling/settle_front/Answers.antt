@@ -1,12 +1,9 @@
 use mathlib.Core.Path.{_≡_, sym, ap, _∙_}
-use mathlib.Core.List.{List, map}
 use Prim.Native.Nat.{_-_}
 use native.Mathlib.Omega.{arith}
-use lib.ListN.{length, take, drop, length-take}
-use Rattle.windows.specs.Rows.{span-numbers}
-use Rattle.windows.specs.declared.span.SpanRow.{SpanRow}
+use lib.ListN.{length, length-take}
 use Rattle.books.specs.DayBooks.{day-rules}
-use Rattle.sheet.specs.Settled.{Ran, ran, given-to}
+use Rattle.sheet.specs.Settled.{rows-ran, ran-to, given-to}
 use Rattle.sheet.proofs.SettledLaws.{front-is, front-new, front-others, front-untouched}
 use Rattle.sheet.proofs.states.settling.settle_front.Needs as need
 
@@ -21,7 +18,7 @@ returns c =
     let part = front-is rows n end least in
     let long : length new ≡ end - 0 = omega (arith, c .settle-rows .kept .rows, length-take (end - 0) rows) in
     record {
-      equation = ap (λ (l : List SpanRow). ran (day-rules (c .args .book)) (map span-numbers l) (length (c .args .store .now))) (sym part) ∙ last .equation ∙ ap {B = Ran} (λ (l : List SpanRow). record { answer = c .settle-rows .result; after = map span-numbers l }) (sym (front-new rows new n end least long));
+      equation = ap (λ l. rows-ran (day-rules (c .args .book)) l (c .args .store .now)) (sym part) ∙ last .equation ∙ ap (ran-to (c .settle-rows .result)) (sym (front-new rows new n end least long));
       others = front-others rows new n end least long;
       rows = front-untouched (c .settle-rows .result) rows new (end - 0) (last .rows);
       store = last .store ∙ ap (given-to (c .settle-rows .result) (c .args .store .now)) part;

@@ -1,15 +1,15 @@
-use mathlib.Core.Path.{_≡_, sym, ap, ap₂, subst, _∙_}
-use mathlib.Core.List.{List, _++_, map}
-use Prim.Native.Nat.{_-_, _≤_, _*_}
+use mathlib.Core.Path.{sym, ap, ap₂, subst, _∙_}
+use mathlib.Core.List.{List, map}
+use Prim.Native.Nat.{_≤_}
 use native.Mathlib.Omega.{arith}
-use lib.ListN.{length, drop}
+use lib.ListN.{length}
 use Rattle.std.proofs.shelf.Lists.{length-map}
 use Rattle.std.specs.declared.result.Result.the-variants.{Err}
 use Rattle.plan.specs.Views.{stored}
 use Rattle.windows.specs.Rows.{span-numbers}
 use Rattle.windows.specs.declared.span.SpanRow.{SpanRow}
 use Rattle.books.specs.DayBooks.{day-rules}
-use Rattle.sheet.specs.Settled.{Ran, ran, Untouched}
+use Rattle.sheet.specs.Settled.{ran, ran-to, Untouched}
 use Rattle.sheet.proofs.SettledLaws.{ran-asked, stores, given-stored, copied, copied-long}
 use Rattle.sheet.proofs.states.settling.settle_rows.Needs as need
 
@@ -17,7 +17,7 @@ pub returns-in-Some : need.returns-in-Some
 returns-in-Some c =
     let e = c .make-refusal .ensures in
     let asked = ran-asked (day-rules (c .args .book)) (map span-numbers (c .args .rows .now)) (length (c .args .store .now)) (c .in-Some .refused) (c .in-Some .ensures tt .refusal) in
-    record { equation = asked ∙ ap {B = Ran} (λ (l : List SpanRow). record { answer = Err (c .in-Some .refused); after = map span-numbers l }) (sym (e .rows)); rows = e .rows; store = e .store }
+    record { equation = asked ∙ ap (ran-to (Err (c .in-Some .refused))) (sym (e .rows)); rows = e .rows; store = e .store }
 
 pub returns-then-n-store : need.returns-then-n-store
 returns-then-n-store c =
