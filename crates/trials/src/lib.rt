@@ -2,6 +2,8 @@
 #[cfg(test)]
 mod examples;
 #[cfg(test)]
+mod fixture;
+#[cfg(test)]
 mod make;
 #[cfg(test)]
 mod marks;

@@ -6,9 +6,7 @@ use plan::Board;
 use plan::Plan;
 use plan::PlanRefusal;
 use plan::Verdict;
-use policies::FirstCome;
 use policies::Policy;
-use policies::TakesFirst;
 use rulebook::BookRefusal;
 use rulebook::RuleBook;
 use sums::PostedSum;
@@ -16,17 +14,9 @@ use sums::Term;
 use windows::Span;
 use windows::SpanRow;
 use windows::SpanWindow;
-use windows::Window;
 
 pub fn span(lo: i32, hi: i32) -> SpanRow {
     SpanRow { lo, hi }
-}
-
-pub fn window(lo: i32, hi: i32) -> Result<Span, BookRefusal> {
-    match Span::from_row(span(lo, hi)) {
-        Some(window) => Ok(window),
-        None => Err(BookRefusal::Row),
-    }
 }
 
 pub fn term(weight: i32, window: usize) -> Term {
@@ -76,31 +66,4 @@ pub fn settled<P: Policy + Drop>(
         return Err(refused);
     }
     plan.settle(&mut board)
-}
-
-// A plan with no rule over this board.
-pub fn plan_on(board: &Board<Span>) -> Result<Plan<DayBook, FirstCome>, PlanRefusal> {
-    let (plan, refusal) = Plan::make(DayBook::new(), FirstCome::new(), board);
-    match refusal {
-        Some(refused) => Err(refused),
-        None => Ok(plan),
-    }
-}
-
-// The ends of the window that a plan shows.
-pub fn shown(
-    plan: &Plan<DayBook, FirstCome>,
-    board: &Board<Span>,
-    j: usize,
-) -> Result<(i32, i32), PlanRefusal> {
-    let row = plan.show(board, j)?.row();
-    Ok((row.lo, row.hi))
-}
-
-// The number that a call is refused with, or 0.
-pub fn number<T: Drop>(answer: Result<T, PlanRefusal>) -> u8 {
-    match answer {
-        Ok(_) => 0,
-        Err(refused) => refused.number(),
-    }
 }

@@ -1,134 +1,95 @@
 // Marks: a mark is kept or taken back on every way out, so the answers are gathered first and checked afterwards.
+use crate::fixture::Fixture;
 use crate::make::*;
 use books::DayPost;
-use books::DayRuleBook;
-use plan::Board;
 use plan::Closing;
 use plan::ClosingDebug;
 use plan::ClosingPartialEq;
 use plan::Cutting;
 use plan::CuttingDebug;
 use plan::CuttingPartialEq;
-use plan::PlanRefusalDebug;
 use plan::Verdict;
 use plan::VerdictDebug;
 use plan::VerdictPartialEq;
-use plan::try_cut;
-use policies::TakesFirst;
-use rulebook::BookRefusalDebug;
 use std::test::*;
-use windows::Span;
-use windows::SpanWindow;
 
 #[test]
 fn take_back() -> Result<(), Fail> {
-    let mut rows = [span(0, 9)];
-    let mut store = [span(0, 0); 16];
-    let mut board = Board::<Span> {
-        rows: &mut rows,
-        store: &mut store,
-    };
-    let mut plan = plan_on(&board)?;
-    let far = window(20, 30)?;
-    let mark = plan.mark(&mut board)?;
-    let cut = plan.cut(&mut board, 0, far);
-    let hidden = shown(&plan, &board, 0);
-    let back = plan.take_back(&mut board, mark);
-    check_eq(cut?, Cutting::Impossible)?;
-    check_eq(number(hidden), 14)?;
-    check_eq(back?, Closing::Done)?;
-    check_eq(shown(&plan, &board, 0)?, (0, 9))
+    let mut day = Fixture::new([span(0, 9); 2])?;
+    let mark = day.mark()?;
+    let cut = day.cut(0, 20, 30);
+    let hidden = day.show(0);
+    let back = day.take_back(mark);
+    check_eq(
+        (cut, hidden, back),
+        (Ok(Cutting::Impossible), Err(14), Ok(Closing::Done)),
+    )?;
+    check_eq(day.show(0), Ok((0, 9)))
 }
 
 #[test]
 fn keep() -> Result<(), Fail> {
-    let mut rows = [span(0, 9)];
-    let mut store = [span(0, 0); 16];
-    let mut board = Board::<Span> {
-        rows: &mut rows,
-        store: &mut store,
-    };
-    let mut plan = plan_on(&board)?;
-    let low = window(-5, 4)?;
-    let mark = plan.mark(&mut board)?;
-    let cut = plan.cut(&mut board, 0, low);
-    let again = plan.cut(&mut board, 0, low);
-    let kept = plan.keep(&board, mark);
-    check_eq(cut?, Cutting::Changed)?;
-    check_eq(again?, Cutting::Unchanged)?;
-    check_eq(kept?, Closing::Done)?;
-    check_eq(shown(&plan, &board, 0)?, (0, 4))
+    let mut day = Fixture::new([span(0, 9); 2])?;
+    let mark = day.mark()?;
+    let cut = day.cut(0, -5, 4);
+    let again = day.cut(0, -5, 4);
+    let kept = day.keep(mark);
+    check_eq(
+        (cut, again, kept),
+        (
+            Ok(Cutting::Changed),
+            Ok(Cutting::Unchanged),
+            Ok(Closing::Done),
+        ),
+    )?;
+    check_eq(day.show(0), Ok((0, 4)))
 }
 
 // Taking an earlier mark back ends the later one.
 #[test]
 fn later_mark() -> Result<(), Fail> {
-    let mut rows = [span(0, 9)];
-    let mut store = [span(0, 0); 16];
-    let mut board = Board::<Span> {
-        rows: &mut rows,
-        store: &mut store,
-    };
-    let mut plan = plan_on(&board)?;
-    let low = window(0, 4)?;
-    let earlier = plan.mark(&mut board)?;
-    let cut = plan.cut(&mut board, 0, low);
-    let later = plan.mark(&mut board);
-    let back = plan.take_back(&mut board, earlier);
-    let ended = plan.take_back(&mut board, later?);
-    check_eq(cut?, Cutting::Changed)?;
-    check_eq(back?, Closing::Done)?;
-    check_eq(number(ended), 13)?;
-    check_eq(shown(&plan, &board, 0)?, (0, 9))
+    let mut day = Fixture::new([span(0, 9); 2])?;
+    let earlier = day.mark()?;
+    let cut = day.cut(0, 0, 4);
+    let later = day.mark();
+    let back = day.take_back(earlier);
+    let ended = day.take_back(later?);
+    check_eq(
+        (cut, back, ended),
+        (Ok(Cutting::Changed), Ok(Closing::Done), Err(13)),
+    )?;
+    check_eq(day.show(0), Ok((0, 9)))
 }
 
 // A rule that was posted under a mark is taken back with it.
 #[test]
 fn posted_rule() -> Result<(), Fail> {
-    let mut rows = [span(4, 4), span(4, 9)];
-    let mut store = [span(0, 0); 32];
-    let mut board = Board::<Span> {
-        rows: &mut rows,
-        store: &mut store,
-    };
-    let mut plan = plan_on(&board)?;
-    let before = plan.post(&board, DayPost::Same(0, 1))?;
-    let mark = plan.mark(&mut board)?;
-    let under = plan.post(&board, DayPost::Differ(0, 1));
-    let failed = plan.settle(&mut board);
-    let back = plan.take_back(&mut board, mark);
-    let after = plan.post(&board, DayPost::Same(1, 0))?;
+    let mut day = Fixture::new([span(4, 4), span(4, 9)])?;
+    let before = day.post(DayPost::Same(0, 1));
+    let mark = day.mark()?;
+    let under = day.post(DayPost::Differ(0, 1));
+    let failed = day.settle();
+    let back = day.take_back(mark);
+    let after = day.post(DayPost::Same(1, 0));
     let (steps, rule, window) = (2, 1, 0);
     check_eq(
-        failed?,
-        Verdict::Impossible {
+        failed,
+        Ok(Verdict::Impossible {
             steps,
             rule,
             window,
-        },
+        }),
     )?;
-    check_eq(back?, Closing::Done)?;
-    check_eq((before, under?, after), (0, 1, 1))?;
-    check_eq(shown(&plan, &board, 1)?, (4, 9))
+    check_eq((before, under, after), (Ok(0), Ok(1), Ok(1)))?;
+    check_eq((back, day.show(1)), (Ok(Closing::Done), Ok((4, 9))))
 }
 
 // A cut that is tried out leaves the plan as it was.
 #[test]
 fn tried() -> Result<(), Fail> {
-    let mut rows = [span(4, 9), span(4, 9)];
-    let mut store = [span(0, 0); 32];
-    let mut board = Board::<Span> {
-        rows: &mut rows,
-        store: &mut store,
-    };
-    let mut plan = plan_on(&board)?;
-    plan.post(&board, DayPost::Differ(0, 1))?;
-    let four = window(4, 4)?;
-    check_eq(
-        try_cut(&mut plan, &mut board, 0, four)?,
-        Verdict::Settled { steps: 2 },
-    )?;
-    check_eq(number(try_cut(&mut plan, &mut board, 2, four)), 6)?;
-    check_eq(shown(&plan, &board, 0)?, (4, 9))?;
-    check_eq(shown(&plan, &board, 1)?, (4, 9))
+    let mut day = Fixture::new([span(4, 9); 2])?;
+    check_eq(day.post(DayPost::Differ(0, 1)), Ok(0))?;
+    check_eq(day.try_cut(0, 4, 4), Ok(Verdict::Settled { steps: 2 }))?;
+    check_eq(day.try_cut(2, 4, 4), Err(6))?;
+    check_eq((day.show(0), day.show(1)), (Ok((4, 9)), Ok((4, 9))))
 }

@@ -1,11 +1,17 @@
 // What a plan refuses, by number. A refused call changes nothing.
+use crate::fixture::Fixture;
 use crate::make::*;
 use books::DayBook;
 use books::DayPost;
 use books::DayRuleBook;
 use plan::Board;
+use plan::ClosingDebug;
+use plan::ClosingPartialEq;
+use plan::CuttingDebug;
+use plan::CuttingPartialEq;
 use plan::Plan;
-use plan::PlanRefusalDebug;
+use plan::VerdictDebug;
+use plan::VerdictPartialEq;
 use policies::FirstCome;
 use policies::TakesFirst;
 use rulebook::BookRefusalDebug;
@@ -38,15 +44,16 @@ fn at_making() -> Result<(), Fail> {
     check_eq(making(reaching, &mut [span(1, 1); 2], &mut store), 0)
 }
 
+// The number that the posting of a rule for two windows is refused with, or 0.
+fn posting(rule: DayPost) -> Result<u8, u8> {
+    match Fixture::new([span(0, 9); 2])?.post(rule) {
+        Ok(_) => Ok(0),
+        Err(number) => Ok(number),
+    }
+}
+
 #[test]
 fn at_posting() -> Result<(), Fail> {
-    let mut rows = [span(0, 9), span(0, 9)];
-    let mut store = [span(0, 0); 32];
-    let board = Board::<Span> {
-        rows: &mut rows,
-        store: &mut store,
-    };
-    let mut plan = plan_on(&board)?;
     let asked = [
         (sum(0, 0, [term(1, 0); 3]), 5),
         (sum(0, 9, [term(1, 0); 3]), 5),
@@ -57,92 +64,52 @@ fn at_posting() -> Result<(), Fail> {
         (two(term(1, 0), term(1, 1), 1_000_000_001), 9),
         (two(term(1, 0), term(1, 1), 1_000_000_000), 0),
     ];
-    for (sum, wanted) in asked {
-        check_eq(number(plan.post(&board, DayPost::SumAtMost(sum))), wanted)?;
+    for (sum, number) in asked {
+        check_eq(posting(DayPost::SumAtMost(sum)), Ok(number))?;
     }
-    check_eq(number(plan.post(&board, DayPost::Differ(0, 2))), 6)?;
-    check_eq(number(plan.post(&board, DayPost::Same(1, 1))), 7)
+    check_eq(posting(DayPost::Differ(0, 2)), Ok(6))?;
+    check_eq(posting(DayPost::Same(1, 1)), Ok(7))
 }
 
 #[test]
 fn full_book() -> Result<(), Fail> {
-    let mut rows = [span(0, 9), span(0, 9)];
-    let mut store = [span(0, 0); 32];
-    let board = Board::<Span> {
-        rows: &mut rows,
-        store: &mut store,
-    };
-    let mut plan = plan_on(&board)?;
+    let mut day = Fixture::new([span(0, 9); 2])?;
     for number in 0..64 {
-        check_eq(plan.post(&board, DayPost::Differ(0, 1))?, number)?;
+        check_eq(day.post(DayPost::Differ(0, 1)), Ok(number))?;
     }
-    check_eq(number(plan.post(&board, DayPost::Differ(0, 0))), 4)
+    check_eq(day.post(DayPost::Differ(0, 0)), Err(4))
 }
 
 #[test]
 fn other_board() -> Result<(), Fail> {
-    let mut rows = [span(0, 9)];
-    let mut store = [span(0, 0); 16];
-    let board = Board::<Span> {
-        rows: &mut rows,
-        store: &mut store,
-    };
-    let mut others = [span(0, 9), span(0, 9)];
-    let mut stored = [span(0, 0); 32];
-    let mut other = Board::<Span> {
-        rows: &mut others,
-        store: &mut stored,
-    };
-    let mut plan = plan_on(&board)?;
-    let low = window(0, 4)?;
-    check_eq(number(plan.post(&other, DayPost::Differ(0, 1))), 3)?;
-    check_eq(number(plan.cut(&mut other, 0, low)), 3)?;
-    check_eq(number(plan.settle(&mut other)), 3)?;
-    check_eq(number(shown(&plan, &other, 0)), 3)?;
-    check_eq((others[0].lo, others[0].hi), (0, 9))
+    let mut day = Fixture::new([span(0, 9); 2])?;
+    day.lent = 1;
+    check_eq(day.post(DayPost::Differ(0, 1)), Err(3))?;
+    check_eq((day.cut(0, 0, 4), day.settle()), (Err(3), Err(3)))?;
+    check_eq(day.show(0), Err(3))?;
+    day.lent = 2;
+    check_eq(day.show(0), Ok((0, 9)))
 }
 
 #[test]
-fn window_number() -> Result<(), Fail> {
-    let mut rows = [span(0, 9)];
-    let mut store = [span(0, 0); 16];
-    let mut board = Board::<Span> {
-        rows: &mut rows,
-        store: &mut store,
-    };
-    let mut plan = plan_on(&board)?;
-    let low = window(0, 4)?;
-    let far = window(20, 30)?;
-    check_eq(number(plan.cut(&mut board, 1, low)), 6)?;
-    check_eq(number(plan.cut(&mut board, 0, far)), 0)?;
-    check_eq(number(shown(&plan, &board, 1)), 6)?;
-    check_eq(number(shown(&plan, &board, 0)), 14)?;
-    check_eq((rows[0].lo, rows[0].hi), (0, 9))
+fn no_such_window() -> Result<(), Fail> {
+    let mut day = Fixture::new([span(0, 9); 2])?;
+    check_eq((day.cut(2, 0, 4), day.show(2)), (Err(6), Err(6)))?;
+    check_eq((day.show(0), day.show(1)), (Ok((0, 9)), Ok((0, 9))))
 }
 
 // A keep that is refused leaves its mark open, so sixteen are open here.
 #[test]
 fn sixteen_marks() -> Result<(), Fail> {
-    let mut rows = [span(0, 9)];
-    let mut store = [span(0, 0); 16];
-    let mut board = Board::<Span> {
-        rows: &mut rows,
-        store: &mut store,
-    };
-    let other = Board::<Span> {
-        rows: &mut [],
-        store: &mut [],
-    };
-    let mut plan = plan_on(&board)?;
+    let mut day = Fixture::new([span(0, 9); 2])?;
     for _ in 0..16 {
-        let mark = plan.mark(&mut board)?;
-        check_eq(number(plan.keep(&other, mark)), 1)?;
+        let mark = day.mark()?;
+        day.lent = 0;
+        check_eq(day.keep(mark), Err(1))?;
+        day.lent = 2;
     }
-    match plan.mark(&mut board) {
-        Ok(mark) => {
-            check_eq(number(plan.keep(&board, mark)), 0)?;
-            Err(Fail::new("a seventeenth mark"))
-        }
-        Err(refused) => check_eq(refused.number(), 11),
+    match day.mark() {
+        Ok(mark) => check_eq(day.keep(mark), Err(11)),
+        Err(number) => check_eq(number, 11),
     }
 }
