@@ -50,20 +50,31 @@ pub fn book(posts: &[DayPost], n: usize) -> Result<DayBook, BookRefusal> {
     Ok(book)
 }
 
-// What a plan of these rules answers when it settles up to four rows.
+// The lowest and the highest number of three windows.
+pub type Ends = [(i32, i32); 3];
+
+fn ends(rows: [SpanRow; 3]) -> Ends {
+    let [a, b, c] = rows;
+    [(a.lo, a.hi), (b.lo, b.hi), (c.lo, c.hi)]
+}
+
+// What a plan of these rules answers when it settles three windows, and what it leaves of them.
 pub fn settled<P: Policy + Drop>(
     book: DayBook,
     policy: P,
-    rows: &mut [SpanRow],
-) -> Result<Verdict, PlanRefusal> {
-    let mut store = [span(0, 0); 64];
+    windows: Ends,
+) -> Result<(Verdict, Ends), PlanRefusal> {
+    let [(a, b), (c, d), (e, f)] = windows;
+    let mut rows = [span(a, b), span(c, d), span(e, f)];
+    let mut store = [span(0, 0); 48];
     let mut board = Board::<Span> {
-        rows,
+        rows: &mut rows,
         store: &mut store,
     };
     let (mut plan, refusal) = Plan::make(book, policy, &board);
     if let Some(refused) = refusal {
         return Err(refused);
     }
-    plan.settle(&mut board)
+    let verdict = plan.settle(&mut board)?;
+    Ok((verdict, ends(rows)))
 }

@@ -20,9 +20,13 @@ use windows::Span;
 use windows::SpanRow;
 use windows::SpanWindow;
 
-// The number that the making of a plan is refused with, or 0.
-fn making(book: DayBook, rows: &mut [SpanRow], store: &mut [SpanRow]) -> u8 {
-    let board = Board::<Span> { rows, store };
+// The number that the making of a plan is refused with, or 0, where the store has 64 places.
+fn making(book: DayBook, rows: &mut [SpanRow]) -> u8 {
+    let mut store = [span(0, 0); 64];
+    let board = Board::<Span> {
+        rows,
+        store: &mut store,
+    };
     let (_plan, refusal) = Plan::make(book, FirstCome::new(), &board);
     match refusal {
         Some(refused) => refused.number(),
@@ -31,17 +35,23 @@ fn making(book: DayBook, rows: &mut [SpanRow], store: &mut [SpanRow]) -> u8 {
 }
 
 #[test]
-fn at_making() -> Result<(), Fail> {
-    let mut store = [span(0, 0); 64];
+fn windows_and_store() -> Result<(), Fail> {
     let none = DayBook::new();
+    let wrong = (
+        making(none, &mut []),
+        making(none, &mut [span(5, 4)]),
+        making(none, &mut [span(1, 1); 65]),
+    );
+    check_eq(wrong, (1, 1, 1))?;
+    let few = making(none, &mut [span(1, 1); 4]);
+    check_eq((few, making(none, &mut [span(1, 1); 5])), (0, 2))
+}
+
+#[test]
+fn reach() -> Result<(), Fail> {
     let reaching = book(&[DayPost::Differ(0, 1)], 2)?;
-    check_eq(making(none, &mut [span(1, 1)], &mut store), 0)?;
-    check_eq(making(none, &mut [], &mut store), 1)?;
-    check_eq(making(none, &mut [span(5, 4)], &mut store), 1)?;
-    check_eq(making(none, &mut [span(1, 1); 65], &mut store), 1)?;
-    check_eq(making(none, &mut [span(1, 1); 5], &mut store), 2)?;
-    check_eq(making(reaching, &mut [span(1, 1)], &mut store), 3)?;
-    check_eq(making(reaching, &mut [span(1, 1); 2], &mut store), 0)
+    let short = making(reaching, &mut [span(1, 1)]);
+    check_eq((short, making(reaching, &mut [span(1, 1); 2])), (3, 0))
 }
 
 // The number that the posting of a rule for two windows is refused with, or 0.

@@ -1,6 +1,5 @@
 // Sheets, from their bytes to their listing.
 use books::DayBook;
-use plan::Verdict;
 use sheet::Fault;
 use sheet::Lent;
 use sheet::Open;
@@ -91,22 +90,17 @@ fn read(
     }
 }
 
-fn settle(
-    sheet: &Read,
-    book: &mut DayBook,
-    rows: &mut [SpanRow],
-    store: &mut [SpanRow],
-) -> Result<Verdict, Fault> {
-    sheet.settle(Lent { book, rows, store })
-}
-
 // Reads, settles and prints a sheet.
 fn list(bytes: &[u8], out: &mut [u8]) -> Result<usize, Fault> {
     let mut book = DayBook::new();
     let mut rows = ROOM;
     let mut store = ROOM;
     let sheet = read(bytes, &mut book, &mut rows, &mut store)?;
-    let verdict = settle(&sheet, &mut book, &mut rows, &mut store)?;
+    let verdict = sheet.settle(Lent {
+        book: &mut book,
+        rows: &mut rows,
+        store: &mut store,
+    })?;
     let lent = Lent {
         book: &mut book,
         rows: &mut rows,
