@@ -7,6 +7,10 @@ root=$(cd "$(dirname "$0")/.." && pwd)
 work=$(mktemp -d)
 trap 'rm -rf "$work"' EXIT
 cp -R "$root/crates.txt" "$root/crates" "$work"
+# the crates that plan depends on are not proved again where that is done
+for part in rlib stamp; do
+    [ -d "$root/target/$part" ] && mkdir -p "$work/target" && cp -R "$root/target/$part" "$work/target"
+done
 bad=0
 for edit in "$root"/checks/misuse/*.edit; do
     file=$work/$(sed -n 's/^file: //p' "$edit")
