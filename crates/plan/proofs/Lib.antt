@@ -13,3 +13,4 @@ mod CallExits
 mod Theorem
 mod PostLaws
 mod ProbeLaws
+mod ProbeTheorem

@@ -5,6 +5,8 @@ ghost use lib.ListN.{length};
 ghost use Rattle.plan.specs.Refusals.{mark-call};
 ghost use Rattle.plan.specs.Views.{Untouched, store-after};
 ghost use Rattle.plan.specs.Probe.{try-call};
+ghost use Rattle.plan.specs.Asking.{ask-same};
+ghost use Rattle.plan.specs.Theorem.{Carries};
 ghost use Rattle.plan.specs.Plans.{state-of, Lends-on};
 use crate::answer::PlanRefusal;
 use crate::answer::Verdict;
@@ -13,7 +15,7 @@ use crate::plan::Plan;
 use policies::Policy;
 use rulebook::RuleBook;
 
-// What a settling answers after this cut. The plan is then back at its windows, with every rule waiting.
+// What a settling answers after this cut. The plan is then back at its windows, with every rule waiting, and nothing new is asked of it.
 pub fn try_cut<B: RuleBook, P: Policy>(
     plan: &mut Plan<B, P>,
     board: &mut Board<B::Kind>,
@@ -28,6 +30,8 @@ pub fn try_cut<B: RuleBook, P: Policy>(
     ensures store { λ r. ⌜ (let s = state-of (B·RuleBook .rules) (P·Policy .waiting) (Kind·Window .stands) (now (plan .entry)) (now (board .entry)) in
         now (now (board .exit) .store) ≡ store-after (mark-call (length (now (now (board .entry) .store))) s .answer) (now (now (board .entry) .store)) (length (s .marks) * s .windows) (now (now (board .entry) .rows))) ⌝ }
     ensures lent { λ _. ⌜ Lends-on (now (board .entry)) (now (board .exit)) ⌝ }
+    ensures asked { λ r. ⌜ (let see = state-of (B·RuleBook .rules) (P·Policy .waiting) (Kind·Window .stands) in
+        Carries (B·RuleBook .sets) (P·Policy .choice) ask-same (see (now (plan .entry)) (now (board .entry))) (see (now (plan .exit)) (now (board .exit)))) ⌝ }
 {
     let mark = match plan.mark(board) {
         Ok(mark) => mark,

@@ -9,6 +9,9 @@ use Rattle.plan.specs.declared.plan.marks.Mark.{Mark}
 use Prim.Native.Nat.{_*_}
 use Rattle.plan.proofs.BoardLaws.{lends-both, lends-three}
 use Rattle.plan.proofs.ProbeLaws.{mark-long, try-refused, try-settled, mark-rows, mark-store}
+use Rattle.plan.proofs.ProperSets.{proper-sets}
+use Rattle.plan.proofs.ProbeTheorem.{try-carries}
+use Rattle.plan.specs.declared.answer.Verdict.{Verdict}
 use Rattle.plan.proofs.probe.try_cut.Needs as need
 
 pub returns-in-Ok-take-back : need.returns-in-Ok-take-back
@@ -26,7 +29,8 @@ returns-in-Ok-take-back g c =
     let t : State = state-of (g .B·RuleBook .rules) (g .P·Policy .waiting) (g .Kind·Window .stands) (c .take-back .last .self) (c .take-back .last .board) in
     let rows = mark-rows long s s₁ (Ok (c .in-Ok .mark)) (board .rows .now) (c .take-back .last .board .rows .now) (c .in-Ok .ensures tt .equation) tt in
     let store = mark-store long s s₁ (Ok (c .in-Ok .mark)) (board .store .now) (c .take-back .last .board .store .now) (board .rows .now) (length (s .marks) * s .windows) (c .in-Ok .ensures tt .equation) (c .take-back .ensures .store ∙ c .cut .ensures .store ∙ c .in-Ok .ensures tt .store) in
-    record { rows = rows; store = store; lent = lends-three (c .in-Ok .ensures tt .lent) (c .cut .ensures .lent) (c .take-back .ensures .lent); equation = try-refused (g .P·Policy .choice) (c .args .j) window long s s₁ (c .in-Ok .mark) (c .in-Ok .ensures tt .equation) l₁ e₁ l₂ e₂ (c .in-Err-cut .refused) u t (Ok (c .in-Ok-take-back .field-0)) (c .in-Err-cut .ensures tt .equation) (c .in-Ok-take-back .ensures tt .equation) }
+    let equation = try-refused (g .P·Policy .choice) (c .args .j) window long s s₁ (c .in-Ok .mark) (c .in-Ok .ensures tt .equation) l₁ e₁ l₂ e₂ (c .in-Err-cut .refused) u t (Ok (c .in-Ok-take-back .field-0)) (c .in-Err-cut .ensures tt .equation) (c .in-Ok-take-back .ensures tt .equation) in
+    record { rows = rows; store = store; lent = lends-three (c .in-Ok .ensures tt .lent) (c .cut .ensures .lent) (c .take-back .ensures .lent); equation = equation; asked = try-carries (g .B·RuleBook .sets) (g .P·Policy .choice) (proper-sets (g .Kind·Window .kind) (g .Kind·Window·met .proper) (g .B·RuleBook .sets) (g .B·RuleBook·met .tied)) (g .P·Policy·met .chooses) (c .args .j) window (g .B·RuleBook·met .tied window .1 (g .Kind·Window·met .kinds (c .args .window))) long s _ t equation }
 
 pub returns-in-Err-take-back : need.returns-in-Err-take-back
 returns-in-Err-take-back g c =
@@ -43,7 +47,8 @@ returns-in-Err-take-back g c =
     let t : State = state-of (g .B·RuleBook .rules) (g .P·Policy .waiting) (g .Kind·Window .stands) (c .take-back .last .self) (c .take-back .last .board) in
     let rows = mark-rows long s s₁ (Ok (c .in-Ok .mark)) (board .rows .now) (c .take-back .last .board .rows .now) (c .in-Ok .ensures tt .equation) tt in
     let store = mark-store long s s₁ (Ok (c .in-Ok .mark)) (board .store .now) (c .take-back .last .board .store .now) (board .rows .now) (length (s .marks) * s .windows) (c .in-Ok .ensures tt .equation) (c .take-back .ensures .store ∙ c .cut .ensures .store ∙ c .in-Ok .ensures tt .store) in
-    record { rows = rows; store = store; lent = lends-three (c .in-Ok .ensures tt .lent) (c .cut .ensures .lent) (c .take-back .ensures .lent); equation = try-refused (g .P·Policy .choice) (c .args .j) window long s s₁ (c .in-Ok .mark) (c .in-Ok .ensures tt .equation) l₁ e₁ l₂ e₂ (c .in-Err-cut .refused) u t (Err (c .in-Err-take-back .ended)) (c .in-Err-cut .ensures tt .equation) (c .in-Err-take-back .ensures tt .equation) }
+    let equation = try-refused (g .P·Policy .choice) (c .args .j) window long s s₁ (c .in-Ok .mark) (c .in-Ok .ensures tt .equation) l₁ e₁ l₂ e₂ (c .in-Err-cut .refused) u t (Err (c .in-Err-take-back .ended)) (c .in-Err-cut .ensures tt .equation) (c .in-Err-take-back .ensures tt .equation) in
+    record { rows = rows; store = store; lent = lends-three (c .in-Ok .ensures tt .lent) (c .cut .ensures .lent) (c .take-back .ensures .lent); equation = equation; asked = try-carries (g .B·RuleBook .sets) (g .P·Policy .choice) (proper-sets (g .Kind·Window .kind) (g .Kind·Window·met .proper) (g .B·RuleBook .sets) (g .B·RuleBook·met .tied)) (g .P·Policy·met .chooses) (c .args .j) window (g .B·RuleBook·met .tied window .1 (g .Kind·Window·met .kinds (c .args .window))) long s _ t equation }
 
 pub returns-in-Ok-take-back-2 : need.returns-in-Ok-take-back-2
 returns-in-Ok-take-back-2 g c =
@@ -63,7 +68,8 @@ returns-in-Ok-take-back-2 g c =
     let store = mark-store long s s₁ (Ok (c .in-Ok .mark)) (board .store .now) (c .take-back-2 .last .board .store .now) (board .rows .now) (length (s .marks) * s .windows) (c .in-Ok .ensures tt .equation) (c .take-back-2 .ensures .store ∙ c .settle-verdict .ensures .store ∙ c .cut .ensures .store ∙ c .in-Ok .ensures tt .store) in
     let l₃ = length (c .settle-verdict .last .board .store .now) in
     let e₃ : l₃ ≡ l₁ = ap length (c .settle-verdict .ensures .store ∙ c .cut .ensures .store) in
-    record { rows = rows; store = store; lent = lends-three (c .in-Ok .ensures tt .lent) (c .cut .ensures .lent) (lends-both (c .settle-verdict .ensures .lent) (c .take-back-2 .ensures .lent)); equation = try-settled (g .P·Policy .choice) (c .args .j) window long s s₁ (c .in-Ok .mark) (c .in-Ok .ensures tt .equation) l₁ e₁ l₂ l₃ e₂ e₃ (c .in-rest .field-0) u v t (c .settle-verdict .result) (Ok (c .in-Ok-take-back-2 .field-0)) (c .in-rest .ensures tt .equation) (c .settle-verdict .ensures .equation) (c .in-Ok-take-back-2 .ensures tt .equation) }
+    let equation = try-settled (g .P·Policy .choice) (c .args .j) window long s s₁ (c .in-Ok .mark) (c .in-Ok .ensures tt .equation) l₁ e₁ l₂ l₃ e₂ e₃ (c .in-rest .field-0) u v t (c .settle-verdict .result) (Ok (c .in-Ok-take-back-2 .field-0)) (c .in-rest .ensures tt .equation) (c .settle-verdict .ensures .equation) (c .in-Ok-take-back-2 .ensures tt .equation) in
+    record { rows = rows; store = store; lent = lends-three (c .in-Ok .ensures tt .lent) (c .cut .ensures .lent) (lends-both (c .settle-verdict .ensures .lent) (c .take-back-2 .ensures .lent)); equation = equation; asked = try-carries (g .B·RuleBook .sets) (g .P·Policy .choice) (proper-sets (g .Kind·Window .kind) (g .Kind·Window·met .proper) (g .B·RuleBook .sets) (g .B·RuleBook·met .tied)) (g .P·Policy·met .chooses) (c .args .j) window (g .B·RuleBook·met .tied window .1 (g .Kind·Window·met .kinds (c .args .window))) long s _ t equation }
 
 pub returns-in-Err-take-back-2 : need.returns-in-Err-take-back-2
 returns-in-Err-take-back-2 g c =
@@ -83,7 +89,8 @@ returns-in-Err-take-back-2 g c =
     let store = mark-store long s s₁ (Ok (c .in-Ok .mark)) (board .store .now) (c .take-back-2 .last .board .store .now) (board .rows .now) (length (s .marks) * s .windows) (c .in-Ok .ensures tt .equation) (c .take-back-2 .ensures .store ∙ c .settle-verdict .ensures .store ∙ c .cut .ensures .store ∙ c .in-Ok .ensures tt .store) in
     let l₃ = length (c .settle-verdict .last .board .store .now) in
     let e₃ : l₃ ≡ l₁ = ap length (c .settle-verdict .ensures .store ∙ c .cut .ensures .store) in
-    record { rows = rows; store = store; lent = lends-three (c .in-Ok .ensures tt .lent) (c .cut .ensures .lent) (lends-both (c .settle-verdict .ensures .lent) (c .take-back-2 .ensures .lent)); equation = try-settled (g .P·Policy .choice) (c .args .j) window long s s₁ (c .in-Ok .mark) (c .in-Ok .ensures tt .equation) l₁ e₁ l₂ l₃ e₂ e₃ (c .in-rest .field-0) u v t (c .settle-verdict .result) (Err (c .in-Err-take-back-2 .ended)) (c .in-rest .ensures tt .equation) (c .settle-verdict .ensures .equation) (c .in-Err-take-back-2 .ensures tt .equation) }
+    let equation = try-settled (g .P·Policy .choice) (c .args .j) window long s s₁ (c .in-Ok .mark) (c .in-Ok .ensures tt .equation) l₁ e₁ l₂ l₃ e₂ e₃ (c .in-rest .field-0) u v t (c .settle-verdict .result) (Err (c .in-Err-take-back-2 .ended)) (c .in-rest .ensures tt .equation) (c .settle-verdict .ensures .equation) (c .in-Err-take-back-2 .ensures tt .equation) in
+    record { rows = rows; store = store; lent = lends-three (c .in-Ok .ensures tt .lent) (c .cut .ensures .lent) (lends-both (c .settle-verdict .ensures .lent) (c .take-back-2 .ensures .lent)); equation = equation; asked = try-carries (g .B·RuleBook .sets) (g .P·Policy .choice) (proper-sets (g .Kind·Window .kind) (g .Kind·Window·met .proper) (g .B·RuleBook .sets) (g .B·RuleBook·met .tied)) (g .P·Policy·met .chooses) (c .args .j) window (g .B·RuleBook·met .tied window .1 (g .Kind·Window·met .kinds (c .args .window))) long s _ t equation }
 
 pub returns-in-Err : need.returns-in-Err
 returns-in-Err g c =
@@ -93,8 +100,11 @@ returns-in-Err g c =
     let long = length (board .store .now) in
     let f = c .in-Err .refused in
     let marks = c .in-Err .ensures tt .equation in
+    let window = g .Kind·Window .numbers (c .args .window) in
+    let equation = ap {B = Call Verdict} (λ (k : Call Mark). try-marked (g .P·Policy .choice) (c .args .j) window long (k .answer) (k .after)) marks in
     record {
-      equation = ap (λ (k : Call Mark). try-marked (g .P·Policy .choice) (c .args .j) (g .Kind·Window .numbers (c .args .window)) long (k .answer) (k .after)) marks;
+      equation = equation;
+      asked = try-carries (g .B·RuleBook .sets) (g .P·Policy .choice) (proper-sets (g .Kind·Window .kind) (g .Kind·Window·met .proper) (g .B·RuleBook .sets) (g .B·RuleBook·met .tied)) (g .P·Policy·met .chooses) (c .args .j) window (g .B·RuleBook·met .tied window .1 (g .Kind·Window·met .kinds (c .args .window))) long s _ t equation;
       lent = c .in-Err .ensures tt .lent;
       rows = mark-rows long s t (Err f) (board .rows .now) (c .mark .last .board .rows .now) marks (c .mark .ensures .rows);
       store = mark-store long s t (Err f) (board .store .now) (c .mark .last .board .store .now) (board .rows .now) (length (s .marks) * s .windows) marks (c .in-Err .ensures tt .store);
