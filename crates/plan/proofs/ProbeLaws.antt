@@ -16,7 +16,7 @@ use Rattle.plan.specs.States.{State}
 use Rattle.plan.specs.Calls.{marking}
 use Rattle.plan.specs.Refusals.{refused, or-else, mark-refusal, Call, unless, settle-call, cut-call, mark-call, back-call}
 use Rattle.plan.specs.Views.{stored, store-after, Untouched}
-use Rattle.plan.specs.Probe.{unless-ended, try-back, try-settle, try-marked, try-call}
+use Rattle.plan.specs.Probe.{settle-after, cut-and-settle, unless-ended, back-after, try-marked, try-call}
 use Rattle.plan.specs.declared.answer.Verdict.{Verdict}
 use Rattle.plan.specs.declared.answer.Cutting.{Cutting}
 use Rattle.plan.specs.declared.answer.Closing.{Closing}
@@ -48,20 +48,22 @@ mark-long {Row} stands rows store store′ s t m same e q =
     let f = fine-rows stands rows (length store) (s .windows) (rw same at (sym board)) in
     ap length q ∙ stored-long store rows (length (s .marks) * s .windows) (room-at (length (s .marks)) (s .windows) (length store) (length rows) (f .0) (few-marks s marks) (f .2))
 
-module _ (choice : List ℕ → ℕ) (j : ℕ) (g : List ℤ) (long : ℕ) (s s₁ : State) (m : Mark) (marks : mark-call long s ≡ record { answer = Ok m; after = s₁ }) (l₁ : ℕ) (e₁ : l₁ ≡ long) where
-  marked : try-call choice j g long s ≡ try-settle choice (m .number) l₁ (cut-call j g l₁ s₁ .answer) (cut-call j g l₁ s₁ .after)
-  marked = ap {B = Call Verdict} (λ (c : Call Mark). try-marked choice j g long (c .answer) (c .after)) marks ∙ ap {B = Call Verdict} (λ l. try-settle choice (m .number) l (cut-call j g l s₁ .answer) (cut-call j g l s₁ .after)) (sym e₁)
+-- a cut that was made, and a settling
+pub settled-after : (choice : List ℕ → ℕ) (j : ℕ) (g : List ℤ) (long l : ℕ) (s u t : State) (x : Cutting) (r : Result Verdict PlanRefusal) → l ≡ long → cut-call j g long s ≡ record { answer = Ok x; after = u } → settle-call choice l u ≡ record { answer = r; after = t } → cut-and-settle choice j g long s ≡ record { answer = r; after = t }
+settled-after choice j g long l s u t x r e cuts settles = ap {B = Call Verdict} (λ (c : Call Cutting). settle-after choice long (c .answer) (c .after)) cuts ∙ ap {B = Call Verdict} (λ k. settle-call choice k u) (sym e) ∙ settles
 
-  ended : (l₂ : ℕ) → l₂ ≡ l₁ → (r : Result Verdict PlanRefusal) (u t : State) (b : Result Closing PlanRefusal) → back-call (m .number) l₂ u ≡ record { answer = b; after = t } → try-back (m .number) l₁ r u ≡ record { answer = unless-ended b r; after = t }
-  ended l₂ e₂ r u t b backs = ap {B = Call Verdict} (λ l. try-back (m .number) l r u) (sym e₂) ∙ ap {B = Call Verdict} (λ (c : Call Closing). record { answer = unless-ended (c .answer) r; after = c .after }) backs
+-- a cut that was refused
+pub refused-after : (choice : List ℕ → ℕ) (j : ℕ) (g : List ℤ) (long : ℕ) (s u : State) (f : PlanRefusal) → cut-call j g long s ≡ record { answer = Err f; after = u } → cut-and-settle choice j g long s ≡ record { answer = Err f; after = u }
+refused-after choice j g long s u f cuts = ap {B = Call Verdict} (λ (c : Call Cutting). settle-after choice long (c .answer) (c .after)) cuts
 
-  -- the cut was refused
-  pub try-refused : (l₂ : ℕ) → l₂ ≡ l₁ → (f : PlanRefusal) (u t : State) (b : Result Closing PlanRefusal) → cut-call j g l₁ s₁ ≡ record { answer = Err f; after = u } → back-call (m .number) l₂ u ≡ record { answer = b; after = t } → try-call choice j g long s ≡ record { answer = unless-ended b (Err f); after = t }
-  try-refused l₂ e₂ f u t b cuts backs = marked ∙ ap {B = Call Verdict} (λ (c : Call Cutting). try-settle choice (m .number) l₁ (c .answer) (c .after)) cuts ∙ ended l₂ e₂ (Err f) u t b backs
-
-  -- the cut was made, and the plan settled
-  pub try-settled : (l₂ l₃ : ℕ) → l₂ ≡ l₁ → l₃ ≡ l₁ → (x : Cutting) (u v t : State) (r : Result Verdict PlanRefusal) (b : Result Closing PlanRefusal) → cut-call j g l₁ s₁ ≡ record { answer = Ok x; after = u } → settle-call choice l₂ u ≡ record { answer = r; after = v } → back-call (m .number) l₃ v ≡ record { answer = b; after = t } → try-call choice j g long s ≡ record { answer = unless-ended b r; after = t }
-  try-settled l₂ l₃ e₂ e₃ x u v t r b cuts settles backs = marked ∙ ap {B = Call Verdict} (λ (c : Call Cutting). try-settle choice (m .number) l₁ (c .answer) (c .after)) cuts ∙ ap {B = Call Verdict} (λ l. try-back (m .number) l₁ (settle-call choice l u .answer) (settle-call choice l u .after)) (sym e₂) ∙ ap {B = Call Verdict} (λ (c : Call Verdict). try-back (m .number) l₁ (c .answer) (c .after)) settles ∙ ended l₃ e₃ r v t b backs
+-- a mark that was handed out, what was done under it, and its taking back
+pub tried : (choice : List ℕ → ℕ) (j : ℕ) (g : List ℤ) (long l₁ l₂ : ℕ) (s s₁ u t : State) (m : Mark) (r : Result Verdict PlanRefusal) (b : Result Closing PlanRefusal) → l₁ ≡ long → l₂ ≡ long → mark-call long s ≡ record { answer = Ok m; after = s₁ } → cut-and-settle choice j g l₁ s₁ ≡ record { answer = r; after = u } → back-call (m .number) l₂ u ≡ record { answer = b; after = t } → try-call choice j g long s ≡ record { answer = unless-ended b r; after = t }
+tried choice j g long l₁ l₂ s s₁ u t m r b e₁ e₂ marks cuts backs =
+    ap {B = Call Verdict} (λ (c : Call Mark). try-marked choice j g long (c .answer) (c .after)) marks
+    ∙ ap {B = Call Verdict} (λ l. back-after (m .number) long (cut-and-settle choice j g l s₁)) (sym e₁)
+    ∙ ap {B = Call Verdict} (back-after (m .number) long) cuts
+    ∙ ap {B = Call Verdict} (λ l. back-after (m .number) l (record { answer = r; after = u })) (sym e₂)
+    ∙ ap {B = Call Verdict} (λ (c : Call Closing). record { answer = unless-ended (c .answer) r; after = c .after }) backs
 
 -- the rows and the store, from what the marking answered
 pub mark-rows : {Row : Type 0} (long : ℕ) (s t : State) (a : Result Mark PlanRefusal) (old new : List Row) → mark-call long s ≡ record { answer = a; after = t } → Untouched a old new → Untouched (mark-call long s .answer) old new

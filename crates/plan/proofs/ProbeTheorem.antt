@@ -1,30 +1,29 @@
 -- A tried cut leads back to what was asked before it.
 use mathlib.Core.Path.{_≡_, refl, sym, ap, subst, _∙_}
 use mathlib.Core.List.{List, [], _∷_}
-use mathlib.Core.Bool.{Bool, true, false, cond, _&&_}
-use Prim.Native.Nat.{ℕ, zero, suc, _*_, _<_}
-use native.Mathlib.Omega.{arith}
+use mathlib.Core.Bool.{Bool, true, false, cond}
+use Prim.Native.Nat.{ℕ, zero, suc}
 use lib.ListN.{length, getD, set}
-use lib.Dec.{eqb, leb}
+use lib.Dec.{eqb}
 use lib.IntN.{ℤ}
 use Rattle.std.specs.declared.option.Option.{Option}
 use Rattle.std.specs.declared.option.Option.the-variants.{Some, None}
 use Rattle.std.specs.declared.result.Result.{Result}
-use Rattle.std.specs.declared.result.Result.the-variants.{Ok, Err}
+use Rattle.std.specs.declared.result.Result.the-variants.{Ok}
 use Rattle.std.proofs.shelf.Lists.{length-set}
 use Rattle.std.proofs.shelf.Tests.{eq-eqb}
 use Rattle.windows.specs.Sets.{same-set, meet}
-use Rattle.rulebook.specs.Tables.{Table, window, all-filled}
+use Rattle.rulebook.specs.Tables.{window, all-filled}
 use Rattle.rulebook.specs.Rules.{Outcome, narrowed, emptied, missing}
 use Rattle.rulebook.specs.Answers.{reads-at}
 use Rattle.policies.specs.Waiting.{Chooses, puts, remove}
-use Rattle.plan.specs.States.{State, Copy, at}
-use Rattle.plan.specs.Settling.{woken, Step, done, went, stuck, narrowing, step-at, step, Run, onward, run, enough, settling}
+use Rattle.plan.specs.States.{State, at}
+use Rattle.plan.specs.Settling.{woken, Step, narrowing, step-at, Run, onward, run, enough, settling}
 use Rattle.plan.specs.Calls.{Cut, cut-to, cutting, marking, is-open, taking-back}
-use Rattle.plan.specs.Refusals.{board-refusal, refused, or-else, window-refusal, mark-refusal, open-refusal, Call, unless, cut-call, settle-call, mark-call, back-call}
-use Rattle.plan.specs.Asking.{Ask, Held, Reached, cut, settled, marked, back, ask-same, ask-cut, ask-marked, ask-back, ask-back-at}
+use Rattle.plan.specs.Refusals.{refused, or-else, window-refusal, mark-refusal, open-refusal, Call, unless, settle-call, back-call}
+use Rattle.plan.specs.Asking.{Ask, Reached, cut, settled, marked, back, ask-same, ask-cut, ask-marked, ask-back, ask-back-at}
 use Rattle.plan.specs.Theorem.{Carries}
-use Rattle.plan.specs.Probe.{try-settle, try-marked, try-call}
+use Rattle.plan.specs.Probe.{settle-after, cut-and-settle, try-marked, try-call}
 use Rattle.plan.specs.declared.answer.Cutting.{Cutting}
 use Rattle.plan.specs.declared.answer.Cutting.the-variants.{Changed, Unchanged}
 use Rattle.plan.specs.declared.answer.Verdict.{Verdict}
@@ -120,13 +119,13 @@ module _ (sets : List ℤ → Type 0) (choice : List ℕ → ℕ) (proper : Prop
       go (Some f) = back-leads b u r same held beside
       go None = let k = settling-beside choice u in back-leads b (settling choice u .after) (settled b u r) same held (record { marks = k .marks ∙ beside .marks; windows = k .windows ∙ beside .windows })
 
-  cut-leads : (j : ℕ) (g : List ℤ) → sets g → Reached sets choice a (try-settle choice (s .handed) long (cut-call j g long (marking s) .answer) (cut-call j g long (marking s) .after) .after)
+  cut-leads : (j : ℕ) (g : List ℤ) → sets g → Reached sets choice a (back-call (s .handed) long (cut-and-settle choice j g long (marking s) .after) .after)
   cut-leads j g k = go (or-else (refused long (marking s)) (window-refusal j (s .table))) refl
     where
       call : Option PlanRefusal → Call Cutting
       call o = unless o (marking s) (record { answer = Ok (cutting j g (marking s) .answer); after = cutting j g (marking s) .after })
 
-      go : (o : Option PlanRefusal) → or-else (refused long (marking s)) (window-refusal j (s .table)) ≡ o → Reached sets choice a (try-settle choice (s .handed) long (call o .answer) (call o .after) .after)
+      go : (o : Option PlanRefusal) → or-else (refused long (marking s)) (window-refusal j (s .table)) ≡ o → Reached sets choice a (back-call (s .handed) long (settle-after choice long (call o .answer) (call o .after) .after) .after)
       go (Some f) e = back-leads (ask-marked (s .handed) a) (marking s) (marked a s h) refl refl (record { marks = refl; windows = refl })
       go None e =
           let l = in-table-from j (s .table) (none-asked (refused long (marking s)) (window-refusal j (s .table)) e .1) in

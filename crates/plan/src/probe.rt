@@ -4,7 +4,7 @@ ghost use Prim.Native.Nat.{_*_};
 ghost use lib.ListN.{length};
 ghost use Rattle.plan.specs.Refusals.{mark-call};
 ghost use Rattle.plan.specs.Views.{Untouched, store-after};
-ghost use Rattle.plan.specs.Probe.{try-call};
+ghost use Rattle.plan.specs.Probe.{cut-and-settle, try-call};
 ghost use Rattle.plan.specs.Asking.{ask-same};
 ghost use Rattle.plan.specs.Theorem.{Carries};
 ghost use Rattle.plan.specs.Plans.{state-of, Lends-on};
@@ -14,6 +14,23 @@ use crate::board::Board;
 use crate::plan::Plan;
 use policies::Policy;
 use rulebook::RuleBook;
+
+// Cuts, and settles unless the cut is refused.
+fn cut_and_settle<B: RuleBook, P: Policy>(
+    plan: &mut Plan<B, P>,
+    board: &mut Board<B::Kind>,
+    j: usize,
+    window: B::Kind,
+) -> Result<Verdict, PlanRefusal>
+    ensures equation { λ r. ⌜ (let see = state-of (B·RuleBook .rules) (P·Policy .waiting) (Kind·Window .stands) in
+        cut-and-settle (P·Policy .choice) j (Kind·Window .numbers window) (length (now (now (board .entry) .store))) (see (now (plan .entry)) (now (board .entry)))
+        ≡ record { answer = r; after = see (now (plan .exit)) (now (board .exit)) }) ⌝ }
+    ensures store { λ r. ⌜ now (now (board .exit) .store) ≡ now (now (board .entry) .store) ⌝ }
+    ensures lent { λ _. ⌜ Lends-on (now (board .entry)) (now (board .exit)) ⌝ }
+{
+    plan.cut(board, j, window)?;
+    plan.settle(board)
+}
 
 // What a settling answers after this cut. The plan is then back at its windows, with every rule waiting, and nothing new is asked of it.
 pub fn try_cut<B: RuleBook, P: Policy>(
@@ -33,19 +50,10 @@ pub fn try_cut<B: RuleBook, P: Policy>(
     ensures asked { λ r. ⌜ (let see = state-of (B·RuleBook .rules) (P·Policy .waiting) (Kind·Window .stands) in
         Carries (B·RuleBook .sets) (P·Policy .choice) ask-same (see (now (plan .entry)) (now (board .entry))) (see (now (plan .exit)) (now (board .exit)))) ⌝ }
 {
-    let mark = match plan.mark(board) {
-        Ok(mark) => mark,
-        Err(refused) => return Err(refused),
-    };
-    if let Err(refused) = plan.cut(board, j, window) {
-        return match plan.take_back(board, mark) {
-            Ok(_) => Err(refused),
-            Err(ended) => Err(ended),
-        };
-    }
-    let verdict = plan.settle(board);
+    let mark = plan.mark(board)?;
+    let answer = cut_and_settle(plan, board, j, window);
     match plan.take_back(board, mark) {
-        Ok(_) => verdict,
+        Ok(_) => answer,
         Err(ended) => Err(ended),
     }
 }
