@@ -1,0 +1,2 @@
+pub mod WeakDivision
+pub mod ProductLaws
