@@ -111,15 +111,15 @@ cases4 p q r j = go (eqb-tells r j) (eqb-tells p j) (eqb-tells q j)
     go (inr a) (inr b) (inr c) = inr (inr (inr (a .0, b .0, c .0)))
 
 module _ (p q r : ℕ) where
-  at-r : (T : Table) (j : ℕ) → eqb r j ≡ true → product-new p q r T j ≡ multiplied (window T r) (window T p) (window T q)
+  pub at-r : (T : Table) (j : ℕ) → eqb r j ≡ true → product-new p q r T j ≡ multiplied (window T r) (window T p) (window T q)
   unfolding product-new
   at-r T j e = rw e refl
 
-  at-p : (T : Table) (j : ℕ) → eqb r j ≡ false → eqb p j ≡ true → product-new p q r T j ≡ divided (window T p) (window T r) (window T q)
+  pub at-p : (T : Table) (j : ℕ) → eqb r j ≡ false → eqb p j ≡ true → product-new p q r T j ≡ divided (window T p) (window T r) (window T q)
   unfolding product-new
   at-p T j e f = rw (e, f) refl
 
-  at-q : (T : Table) (j : ℕ) → eqb r j ≡ false → eqb p j ≡ false → eqb q j ≡ true → product-new p q r T j ≡ divided (window T q) (window T r) (window T p)
+  pub at-q : (T : Table) (j : ℕ) → eqb r j ≡ false → eqb p j ≡ false → eqb q j ≡ true → product-new p q r T j ≡ divided (window T q) (window T r) (window T p)
   unfolding product-new
   at-q T j e f g = rw (e, f, g) refl
 
@@ -127,7 +127,7 @@ module _ (p q r : ℕ) where
   unfolding product-new
   elsewhere T j e f g = rw (e, f, g) refl
 
-  product-covers : (j : ℕ) → product-reads p q r j ≡ true → j < max (suc p) (max (suc q) (suc r))
+  pub product-covers : (j : ℕ) → product-reads p q r j ≡ true → j < max (suc p) (max (suc q) (suc r))
   product-covers j h = grind (arith, tells)
 
   product-smaller : (T : Table) (j : ℕ) → Within (product-new p q r T j) (window T j)
@@ -157,7 +157,7 @@ module _ (p q r : ℕ) where
       go (inr (inr (inl (x, y, z, w)))) = subst (Of spans) (sym (at-q T j x y z)) (divided-kind (window T q) (window T r) (window T p) b c a (subst (λ s. 0 < length s) (at-q T j x y z) n))
       go (inr (inr (inr (x, y, z)))) = subst (Of spans) (sym (elsewhere T j x y z)) (e j h)
 
-  product-unread : (T : Table) (j : ℕ) → product-reads p q r j ≡ false → product-new p q r T j ≡ window T j
+  pub product-unread : (T : Table) (j : ℕ) → product-reads p q r j ≡ false → product-new p q r T j ≡ window T j
   product-unread T j h = elsewhere T j (grind arith) (grind arith) (grind arith)
 
   product-local : (T U : Table) → Agree (product-reads p q r) T U → (j : ℕ) → product-reads p q r j ≡ true → product-new p q r T j ≡ product-new p q r U j

@@ -4,6 +4,7 @@ ghost use mathlib.Core.Bool.{true, false};
 ghost use Rattle.products.specs.Products.{all-below, repeated};
 
 mod check;
+mod narrow;
 
 // The product of windows p and q is to equal window r.
 #[derive(Clone, Copy)]
