@@ -121,7 +121,10 @@ fn weak_quotients(a: i64, b: i64, c: i64, d: i64) -> Ends
     ensures { λ r. ⌜ ((v : ℤ) → negsuc 999999 ≤ℤ v → v ≤ℤ pos 1000000 → weakly-divides a b c d v ≡ between (r .from) (r .to) v) ⌝ }
 {
     if zero_in_both(a, b, c, d) {
-        return Ends { from: -1_000_000, to: 1_000_000 };
+        return Ends {
+            from: -1_000_000,
+            to: 1_000_000,
+        };
     }
     if around_zero(c, d) {
         let e = a.abs().max(b.abs());
