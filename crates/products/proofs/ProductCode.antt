@@ -38,18 +38,18 @@ across y a x b p q = turned (mul-between y a x b p q)
     turned : (((y *ℤ a) ≤ℤ (y *ℤ x)) × ((y *ℤ x) ≤ℤ (y *ℤ b))) ⊎ (((y *ℤ b) ≤ℤ (y *ℤ x)) × ((y *ℤ x) ≤ℤ (y *ℤ a))) → (((a *ℤ y) ≤ℤ (x *ℤ y)) × ((x *ℤ y) ≤ℤ (b *ℤ y))) ⊎ (((b *ℤ y) ≤ℤ (x *ℤ y)) × ((x *ℤ y) ≤ℤ (a *ℤ y)))
     turned = subst (λ z. ((z ≤ℤ (y *ℤ x)) × ((y *ℤ x) ≤ℤ (y *ℤ b))) ⊎ (((y *ℤ b) ≤ℤ (y *ℤ x)) × ((y *ℤ x) ≤ℤ z)) → (((a *ℤ y) ≤ℤ (x *ℤ y)) × ((x *ℤ y) ≤ℤ (b *ℤ y))) ⊎ (((b *ℤ y) ≤ℤ (x *ℤ y)) × ((x *ℤ y) ≤ℤ (a *ℤ y)))) (*ℤ-comm a y) (subst₂ (λ z w. (((a *ℤ y) ≤ℤ z) × (z ≤ℤ w)) ⊎ ((w ≤ℤ z) × (z ≤ℤ (a *ℤ y))) → (((a *ℤ y) ≤ℤ (x *ℤ y)) × ((x *ℤ y) ≤ℤ (b *ℤ y))) ⊎ (((b *ℤ y) ≤ℤ (x *ℤ y)) × ((x *ℤ y) ≤ℤ (a *ℤ y)))) (*ℤ-comm x y) (*ℤ-comm b y) (λ t. t))
 
-pub corners-low : (l a b c d x y : ℤ) → l ≤ℤ (a *ℤ c) → l ≤ℤ (a *ℤ d) → l ≤ℤ (b *ℤ c) → l ≤ℤ (b *ℤ d) → a ≤ℤ x → x ≤ℤ b → c ≤ℤ y → y ≤ℤ d → l ≤ℤ (x *ℤ y)
+corners-low : (l a b c d x y : ℤ) → l ≤ℤ (a *ℤ c) → l ≤ℤ (a *ℤ d) → l ≤ℤ (b *ℤ c) → l ≤ℤ (b *ℤ d) → a ≤ℤ x → x ≤ℤ b → c ≤ℤ y → y ≤ℤ d → l ≤ℤ (x *ℤ y)
 corners-low l a b c d x y ac ad bc bd p q r s =
     low-of l (x *ℤ y) (x *ℤ c) (x *ℤ d) (low-of l (x *ℤ c) (a *ℤ c) (b *ℤ c) ac bc (across c a x b p q)) (low-of l (x *ℤ d) (a *ℤ d) (b *ℤ d) ad bd (across d a x b p q)) (mul-between x c y d r s)
 
-pub corners-high : (h a b c d x y : ℤ) → (a *ℤ c) ≤ℤ h → (a *ℤ d) ≤ℤ h → (b *ℤ c) ≤ℤ h → (b *ℤ d) ≤ℤ h → a ≤ℤ x → x ≤ℤ b → c ≤ℤ y → y ≤ℤ d → (x *ℤ y) ≤ℤ h
+corners-high : (h a b c d x y : ℤ) → (a *ℤ c) ≤ℤ h → (a *ℤ d) ≤ℤ h → (b *ℤ c) ≤ℤ h → (b *ℤ d) ≤ℤ h → a ≤ℤ x → x ≤ℤ b → c ≤ℤ y → y ≤ℤ d → (x *ℤ y) ≤ℤ h
 corners-high h a b c d x y ac ad bc bd p q r s =
     high-of h (x *ℤ y) (x *ℤ c) (x *ℤ d) (high-of h (x *ℤ c) (a *ℤ c) (b *ℤ c) ac bc (across c a x b p q)) (high-of h (x *ℤ d) (a *ℤ d) (b *ℤ d) ad bd (across d a x b p q)) (mul-between x c y d r s)
 
-abbrev pub min4 : ℤ → ℤ → ℤ → ℤ → ℤ
+abbrev min4 : ℤ → ℤ → ℤ → ℤ → ℤ
 min4 w x y z = minZ (minZ w x) (minZ y z)
 
-abbrev pub max4 : ℤ → ℤ → ℤ → ℤ → ℤ
+abbrev max4 : ℤ → ℤ → ℤ → ℤ → ℤ
 max4 w x y z = maxZ (maxZ w x) (maxZ y z)
 
 least-same : (x y : ℤ) → x ≤ℤ y → y ≤ℤ x → x ≡ y
@@ -80,7 +80,7 @@ first a b h = in-range a b a (omega (arith, ints)) h
 last : (a b : ℤ) → a ≤ℤ b → In b (range a b)
 last a b h = in-range a b b h (omega (arith, ints))
 
-pub least-corner : (a b c d : ℤ) → a ≤ℤ b → c ≤ℤ d → least-product (range a b) (range c d) ≡ min4 (a *ℤ c) (a *ℤ d) (b *ℤ c) (b *ℤ d)
+least-corner : (a b c d : ℤ) → a ≤ℤ b → c ≤ℤ d → least-product (range a b) (range c d) ≡ min4 (a *ℤ c) (a *ℤ d) (b *ℤ c) (b *ℤ d)
 least-corner a b c d h k =
     let r = least-product-reached (range a b) (range c d) (range-some a b h) (range-some c d k) in
     let x = range-in a b (r .0) (r .2) in
@@ -89,7 +89,7 @@ least-corner a b c d h k =
     least-same _ _ (min4-above _ _ _ _ _ (least-product-bounds (range a b) (range c d) a c (first a b h) (first c d k)) (least-product-bounds (range a b) (range c d) a d (first a b h) (last c d k)) (least-product-bounds (range a b) (range c d) b c (last a b h) (first c d k)) (least-product-bounds (range a b) (range c d) b d (last a b h) (last c d k)))
     (subst (λ z. min4 (a *ℤ c) (a *ℤ d) (b *ℤ c) (b *ℤ d) ≤ℤ z) (sym (r .4)) (corners-low _ a b c d (r .0) (r .1) (m .0) (m .1) (m .2) (m .3) (x .0) (x .1) (y .0) (y .1)))
 
-pub greatest-corner : (a b c d : ℤ) → a ≤ℤ b → c ≤ℤ d → greatest-product (range a b) (range c d) ≡ max4 (a *ℤ c) (a *ℤ d) (b *ℤ c) (b *ℤ d)
+greatest-corner : (a b c d : ℤ) → a ≤ℤ b → c ≤ℤ d → greatest-product (range a b) (range c d) ≡ max4 (a *ℤ c) (a *ℤ d) (b *ℤ c) (b *ℤ d)
 greatest-corner a b c d h k =
     let r = greatest-product-reached (range a b) (range c d) (range-some a b h) (range-some c d k) in
     let x = range-in a b (r .0) (r .2) in

@@ -2,10 +2,10 @@
 use mathlib.Core.Path.{_≡_, refl, sym, subst, _∙_}
 use mathlib.Core.List.{List}
 use mathlib.Core.Logic.{_⊎_, inl, inr}
-use mathlib.Core.Bool.{Bool, true, false, _&&_, _||_}
+use mathlib.Core.Bool.{Bool, true, false}
 use Prim.Native.Nat.{ℕ, suc, _≤_, _<_, max, min}
 use native.Mathlib.Omega.{arith}
-use lib.Dec.{eqb, ltb}
+use lib.Dec.{eqb}
 use lib.ListN.{length}
 use lib.IntN.{ℤ, _*ℤ_, *ℤ-comm}
 use lib.Signed.{_≤ℤ_}
@@ -15,7 +15,7 @@ use Rattle.std.proofs.shelf.Signed.{ints}
 use Rattle.std.proofs.shelf.Ways.{tells, eqb-tells}
 use Rattle.windows.specs.Sets.{eqZ, In, Within, between, least-by, greatest-by, least, greatest}
 use Rattle.windows.specs.Kinds.{Of, spans}
-use Rattle.windows.proofs.SetLaws.{tests, never, between-is, is-between, within-kept, in-kept, kept-passes, rising-kept, least-bounds, greatest-bounds, least-reached, greatest-reached, least-within, greatest-within, Gapless, hull-kept}
+use Rattle.windows.proofs.SetLaws.{tests, between-is, is-between, within-kept, in-kept, kept-passes, rising-kept, least-bounds, greatest-bounds, least-reached, greatest-reached, least-within, greatest-within, Gapless, hull-kept}
 use Rattle.rulebook.specs.Tables.{Table, Placing, window, place, Inside, Places, Every}
 use Rattle.rulebook.specs.Rules.{Agree, Lawful}
 use Rattle.rules.specs.Pointwise.{rule-of}

@@ -54,7 +54,7 @@ both-true : (p q : Bool) → (p && q) ≡ true → (p ≡ true) × (q ≡ true)
 both-true true q e = (refl, e)
 both-true false q e = never e
 
-pub true-both : (p q : Bool) → p ≡ true → q ≡ true → (p && q) ≡ true
+true-both : (p q : Bool) → p ≡ true → q ≡ true → (p && q) ≡ true
 true-both p q e f = grind arith
 
 above-zero : (c : ℤ) → pos 0 <ℤ c → ltZ (pos 0) c ≡ true
@@ -148,16 +148,16 @@ bounded-by a b c d v e (inr (p, q)) o u h k z = (low u, high o)
     high (inr x) = high-by v (negℤ a) e (over-left d v a q x) (omega (arith, ints)) z
 
 -- ---- the cases of a weak division
-pub size-bounds : (a b : ℤ) → (negℤ (size a b) ≤ℤ a) × (a ≤ℤ size a b) × (negℤ (size a b) ≤ℤ b) × (b ≤ℤ size a b) × (pos 0 ≤ℤ size a b)
+size-bounds : (a b : ℤ) → (negℤ (size a b) ≤ℤ a) × (a ≤ℤ size a b) × (negℤ (size a b) ≤ℤ b) × (b ≤ℤ size a b) × (pos 0 ≤ℤ size a b)
 size-bounds a b = (omega (arith, ints, clamps), omega (arith, ints, clamps), omega (arith, ints, clamps), omega (arith, ints, clamps), omega (arith, ints, clamps))
 
 size-mono : (a b a′ b′ : ℤ) → a′ ≤ℤ a → a ≤ℤ b → b ≤ℤ b′ → size a b ≤ℤ size a′ b′
 size-mono a b a′ b′ h i j = omega (arith, ints, clamps)
 
-pub up-tells : (c : ℤ) → pos 0 ≤ℤ c → (pos 0 <ℤ up-from-zero c) × (c ≤ℤ up-from-zero c) × ((y : ℤ) → pos 0 <ℤ y → c ≤ℤ y → up-from-zero c ≤ℤ y)
+up-tells : (c : ℤ) → pos 0 ≤ℤ c → (pos 0 <ℤ up-from-zero c) × (c ≤ℤ up-from-zero c) × ((y : ℤ) → pos 0 <ℤ y → c ≤ℤ y → up-from-zero c ≤ℤ y)
 up-tells c h = (grind (arith, ints, tests), grind (arith, ints, tests), λ y p q. grind (arith, ints, tests))
 
-pub down-tells : (d : ℤ) → d ≤ℤ pos 0 → (down-from-zero d <ℤ pos 0) × (down-from-zero d ≤ℤ d) × ((y : ℤ) → y <ℤ pos 0 → y ≤ℤ d → y ≤ℤ down-from-zero d)
+down-tells : (d : ℤ) → d ≤ℤ pos 0 → (down-from-zero d <ℤ pos 0) × (down-from-zero d ≤ℤ d) × ((y : ℤ) → y <ℤ pos 0 → y ≤ℤ d → y ≤ℤ down-from-zero d)
 down-tells d h = (grind (arith, ints, tests), grind (arith, ints, tests), λ y p q. grind (arith, ints, tests))
 
 -- 0 is not in both spans
