@@ -305,11 +305,11 @@ pub same-quotients : (a b c d a′ b′ c′ d′ v : ℤ) → a ≡ a′ → b 
 same-quotients a b c d a′ b′ c′ d′ v p q r s = ap (λ z. among-quotients z b c d v) p ∙ ap (λ z. among-quotients a′ z c d v) q ∙ ap (λ z. among-quotients a′ b′ z d v) r ∙ ap (λ z. among-quotients a′ b′ c′ z v) s
 
 -- the corners, as the code joins them
-pub joined-least : (a b c d w x y z m n r : ℤ) → a ≤ℤ b → c ≤ℤ d → w ≡ a *ℤ c → x ≡ a *ℤ d → y ≡ b *ℤ c → z ≡ b *ℤ d → m ≡ minZ w x → n ≡ minZ y z → r ≡ minZ m n → r ≡ least-product (range a b) (range c d)
-joined-least a b c d w x y z m n r h k ew ex ey ez em en er = er ∙ ap₂ minZ (em ∙ ap₂ minZ ew ex) (en ∙ ap₂ minZ ey ez) ∙ sym (least-corner a b c d h k)
+pub joined-least : (a b c d w x y z r : ℤ) → a ≤ℤ b → c ≤ℤ d → w ≡ a *ℤ c → x ≡ a *ℤ d → y ≡ b *ℤ c → z ≡ b *ℤ d → r ≡ min4 w x y z → r ≡ least-product (range a b) (range c d)
+joined-least a b c d w x y z r h k ew ex ey ez e = e ∙ ap₂ minZ (ap₂ minZ ew ex) (ap₂ minZ ey ez) ∙ sym (least-corner a b c d h k)
 
-pub joined-greatest : (a b c d w x y z m n r : ℤ) → a ≤ℤ b → c ≤ℤ d → w ≡ a *ℤ c → x ≡ a *ℤ d → y ≡ b *ℤ c → z ≡ b *ℤ d → m ≡ maxZ w x → n ≡ maxZ y z → r ≡ maxZ m n → r ≡ greatest-product (range a b) (range c d)
-joined-greatest a b c d w x y z m n r h k ew ex ey ez em en er = er ∙ ap₂ maxZ (em ∙ ap₂ maxZ ew ex) (en ∙ ap₂ maxZ ey ez) ∙ sym (greatest-corner a b c d h k)
+pub joined-greatest : (a b c d w x y z r : ℤ) → a ≤ℤ b → c ≤ℤ d → w ≡ a *ℤ c → x ≡ a *ℤ d → y ≡ b *ℤ c → z ≡ b *ℤ d → r ≡ max4 w x y z → r ≡ greatest-product (range a b) (range c d)
+joined-greatest a b c d w x y z r h k ew ex ey ez e = e ∙ ap₂ maxZ (ap₂ maxZ ew ex) (ap₂ maxZ ey ez) ∙ sym (greatest-corner a b c d h k)
 
 pub negative-is : (e : ℤ) → negℤ e ≡ pos 0 -ℤ e
 negative-is e = sym (+ℤ-idl (negℤ e))

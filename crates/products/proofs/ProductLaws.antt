@@ -98,6 +98,9 @@ unfolding divided
 divided-kind s r q o p u n = kept-kind (weakly-divides (least r) (greatest r) (least q) (greatest q)) s (weak-gapless (least r) (greatest r) (least q) (greatest q) (ends-in-order r (p .some)) (ends-in-order q (u .some))) o n
 
 -- ---- the rule
+pub of-same : (f : List ℤ → List ℤ → List ℤ → List ℤ) {s s′ t t′ u u′ : List ℤ} → s ≡ s′ → t ≡ t′ → u ≡ u′ → f s t u ≡ f s′ t′ u′
+of-same f e g i = cc
+
 abbrev Cases4 : ℕ → ℕ → ℕ → ℕ → Type 0
 Cases4 p q r j = ((eqb r j ≡ true) × (r ≡ j)) ⊎ (((eqb r j ≡ false) × (eqb p j ≡ true) × (p ≡ j)) ⊎ (((eqb r j ≡ false) × (eqb p j ≡ false) × (eqb q j ≡ true) × (q ≡ j)) ⊎ ((eqb r j ≡ false) × (eqb p j ≡ false) × (eqb q j ≡ false))))
 
@@ -172,13 +175,10 @@ module _ (p q r : ℕ) where
       z : window T r ≡ window U r
       z = a r (grind (arith, tells))
 
-      three : (f : List ℤ → List ℤ → List ℤ → List ℤ) → {s s′ t t′ u u′ : List ℤ} → s ≡ s′ → t ≡ t′ → u ≡ u′ → f s t u ≡ f s′ t′ u′
-      three f e g i = cc
-
       go : Cases4 p q r j → product-new p q r T j ≡ product-new p q r U j
-      go (inl (u, v)) = at-r T j u ∙ three multiplied z x y ∙ sym (at-r U j u)
-      go (inr (inl (u, v, w))) = at-p T j u v ∙ three divided x z y ∙ sym (at-p U j u v)
-      go (inr (inr (inl (u, v, w, t)))) = at-q T j u v w ∙ three divided y z x ∙ sym (at-q U j u v w)
+      go (inl (u, v)) = at-r T j u ∙ of-same multiplied z x y ∙ sym (at-r U j u)
+      go (inr (inl (u, v, w))) = at-p T j u v ∙ of-same divided x z y ∙ sym (at-p U j u v)
+      go (inr (inr (inl (u, v, w, t)))) = at-q T j u v w ∙ of-same divided y z x ∙ sym (at-q U j u v w)
       go (inr (inr (inr (u, v, w)))) = elsewhere T j u v w ∙ a j h ∙ sym (elsewhere U j u v w)
 
   product-mono : (T U : Table) → Every (Of spans) T → Inside T U → max (suc p) (max (suc q) (suc r)) ≤ length T → (j : ℕ) → Within (product-new p q r T j) (product-new p q r U j)

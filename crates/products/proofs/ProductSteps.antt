@@ -23,7 +23,7 @@ use Rattle.rules.specs.Pointwise.{rule-of, Entry, written}
 use Rattle.rules.proofs.WritingLaws.{window-inside, written-made, outcome-none, written-none-is}
 use Rattle.sums.specs.Steps.{Window-of}
 use Rattle.products.specs.Products.{least-product, greatest-product, multiplied, weakly-divides, divided, product-new, product-reads, product-rule, repeated}
-use Rattle.products.proofs.ProductLaws.{at-p, at-q, at-r, product-unread, product-covers}
+use Rattle.products.proofs.ProductLaws.{of-same, at-p, at-q, at-r, product-unread, product-covers}
 
 -- ---- one window
 pub multiplied-is : (lo hi a b c d from to : ℤ) (o : Option Span) → from ≡ least-product (range a b) (range c d) → to ≡ greatest-product (range a b) (range c d) → Window-of (range (maxZ lo from) (minZ hi to)) o → Window-of (multiplied (range lo hi) (range a b) (range c d)) o
@@ -59,17 +59,14 @@ three-written p q r T es a b c d e f x y z n h k l wp wq wr i ex ey ez =
     inside : (lo hi : ℤ) (j : ℕ) → lo ≤ℤ hi → range lo hi ≡ window T j → j < length T
     inside lo hi j h w = window-inside T j (λ m. not-none (range lo hi) (range-some lo hi h) (w ∙ m))
 
-    three : (f : List ℤ → List ℤ → List ℤ → List ℤ) → {s s′ t t′ u u′ : List ℤ} → s ≡ s′ → t ≡ t′ → u ≡ u′ → f s t u ≡ f s′ t′ u′
-    three f e g i = cc
-
     new-p : x ≡ product-new p q r T p
-    new-p = ex ∙ three divided wp wr wq ∙ sym (at-p p q r T p (grind (arith, tells)) (grind (arith, tells)))
+    new-p = ex ∙ of-same divided wp wr wq ∙ sym (at-p p q r T p (grind (arith, tells)) (grind (arith, tells)))
 
     new-q : y ≡ product-new p q r T q
-    new-q = ey ∙ three divided wq wr wp ∙ sym (at-q p q r T q (grind (arith, tells)) (grind (arith, tells)) (grind (arith, tells)))
+    new-q = ey ∙ of-same divided wq wr wp ∙ sym (at-q p q r T q (grind (arith, tells)) (grind (arith, tells)) (grind (arith, tells)))
 
     new-r : z ≡ product-new p q r T r
-    new-r = ez ∙ three multiplied wr wp wq ∙ sym (at-r p q r T r (grind (arith, tells)))
+    new-r = ez ∙ of-same multiplied wr wp wq ∙ sym (at-r p q r T r (grind (arith, tells)))
 
     unread : (j : ℕ) → (eqb p j || (eqb q j || (eqb r j || false))) ≡ false → product-reads p q r j ≡ false
     unread j u = grind arith

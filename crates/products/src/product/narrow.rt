@@ -22,6 +22,11 @@ use windows::SpanRow;
 use windows::SpanWindow;
 use windows::Window;
 
+// No window has a number below the lowest or above the highest.
+const LOWEST: i64 = -1_000_000;
+
+const HIGHEST: i64 = 1_000_000;
+
 // All whole numbers from one to another, none where `to` is below `from`.
 #[derive(Clone, Copy)]
 struct Ends {
@@ -38,6 +43,20 @@ fn times(x: i32, y: i32) -> i64
     x as i64 * y as i64
 }
 
+// The least of four numbers.
+fn least_of(w: i64, x: i64, y: i64, z: i64) -> i64
+    ensures { λ r. ⌜ r ≡ minZ (minZ w x) (minZ y z) ⌝ }
+{
+    w.min(x).min(y.min(z))
+}
+
+// The greatest of four numbers.
+fn greatest_of(w: i64, x: i64, y: i64, z: i64) -> i64
+    ensures { λ r. ⌜ r ≡ maxZ (maxZ w x) (maxZ y z) ⌝ }
+{
+    w.max(x).max(y.max(z))
+}
+
 // The smallest span around all products of a number of one row and one of the other: it reaches from corner to corner.
 fn products(p: SpanRow, q: SpanRow) -> Ends
     requires { ⌜ Stands (p .lo) (p .hi) ⌝ ∗ ⌜ Stands (q .lo) (q .hi) ⌝ }
@@ -49,8 +68,8 @@ fn products(p: SpanRow, q: SpanRow) -> Ends
     let y = times(p.hi, q.lo);
     let z = times(p.hi, q.hi);
     Ends {
-        from: w.min(x).min(y.min(z)),
-        to: w.max(x).max(y.max(z)),
+        from: least_of(w, x, y, z),
+        to: greatest_of(w, x, y, z),
     }
 }
 
@@ -115,15 +134,15 @@ fn around_zero(c: i64, d: i64) -> bool
     c < 0 && 0 < d
 }
 
-// The weak division [a..b] : [c..d], as far as a span may reach.
+// The weak division [a..b] : [c..d], as far as a window may reach; 0 is taken off [c..d] where it is an end.
 fn weak_quotients(a: i64, b: i64, c: i64, d: i64) -> Ends
     requires { ⌜ Stands a b ⌝ ∗ ⌜ Stands c d ⌝ }
     ensures { λ r. ⌜ ((v : ℤ) → negsuc 999999 ≤ℤ v → v ≤ℤ pos 1000000 → weakly-divides a b c d v ≡ between (r .from) (r .to) v) ⌝ }
 {
     if zero_in_both(a, b, c, d) {
         return Ends {
-            from: -1_000_000,
-            to: 1_000_000,
+            from: LOWEST,
+            to: HIGHEST,
         };
     }
     if around_zero(c, d) {

@@ -42,20 +42,12 @@ returns c =
     let fx = fits _ (c .times-x .ensures .bound) in
     let fy = fits _ (c .times-y .ensures .bound) in
     let fz = fits _ (c .times-z .ensures .bound) in
-    let f1 : SFits w64 (c .min .result) = search needs in
-    let f2 : SFits w64 (c .min-2 .result) = search needs in
-    let f3 : SFits w64 (c .min-3 .result) = search needs in
-    let g1 : SFits w64 (c .max .result) = search needs in
-    let g2 : SFits w64 (c .max-2 .result) = search needs in
-    let g3 : SFits w64 (c .max-3 .result) = search needs in
+    let fl : SFits w64 (c .least-of .result) = search needs in
+    let fg : SFits w64 (c .greatest-of .result) = search needs in
     let w = simp toZ-ofZ at (c .times-w .ensures .value) in
     let x = simp toZ-ofZ at (c .times-x .ensures .value) in
     let y = simp toZ-ofZ at (c .times-y .ensures .value) in
     let z = simp toZ-ofZ at (c .times-z .ensures .value) in
-    let l1 = simp toZ-ofZ at (c .min .ensures .value) in
-    let l2 = simp toZ-ofZ at (c .min-2 .ensures .value) in
-    let l3 = simp toZ-ofZ at (c .min-3 .ensures .value) in
-    let h1 = simp toZ-ofZ at (c .max .ensures .value) in
-    let h2 = simp toZ-ofZ at (c .max-2 .ensures .value) in
-    let h3 = simp toZ-ofZ at (c .max-3 .ensures .value) in
-    record { least = simp toZ-ofZ (joined-least _ _ _ _ _ _ _ _ _ _ _ (s .0) (t .0) w x y z l1 l2 l3); greatest = simp toZ-ofZ (joined-greatest _ _ _ _ _ _ _ _ _ _ _ (s .0) (t .0) w x y z h1 h2 h3) }
+    let l = simp toZ-ofZ at (c .least-of .ensures) in
+    let g = simp toZ-ofZ at (c .greatest-of .ensures) in
+    record { least = simp toZ-ofZ (joined-least _ _ _ _ _ _ _ _ _ (s .0) (t .0) w x y z l); greatest = simp toZ-ofZ (joined-greatest _ _ _ _ _ _ _ _ _ (s .0) (t .0) w x y z g) }
