@@ -1,0 +1,4 @@
+pub mod WeakDivision
+pub mod ProductLaws
+pub mod ProductCode
+pub mod ProductSteps
