@@ -12,7 +12,6 @@ use Rattle.std.specs.declared.result.Result.{Result}
 use Rattle.std.specs.declared.result.Result.the-variants.{Ok, Err}
 use Rattle.rulebook.specs.Rules.{Rule}
 use Rattle.plan.specs.States.{State, Copy, state}
-use Rattle.plan.specs.declared.answer.PlanRefusal.{PlanRefusal}
 use Rattle.plan.specs.declared.status.Slot.{Slot}
 use Rattle.plan.specs.declared.status.Status.{Status}
 
@@ -48,11 +47,11 @@ abbrev pub stored : {Row : Type 0} → List Row → ℕ → List Row → List Ro
 stored store from rows = take from store ++ (rows ++ drop (from + length rows) store)
 
 -- the store after a marking that gave this answer: a new copy stands at `from`
-abbrev pub store-after : {A Row : Type 0} → Result A PlanRefusal → List Row → ℕ → List Row → List Row
+abbrev pub store-after : {A E Row : Type 0} → Result A E → List Row → ℕ → List Row → List Row
 store-after (Ok m) store from rows = stored store from rows
 store-after (Err f) store from rows = store
 
 -- a refused call leaves the very rows
-abbrev pub Untouched : {A Row : Type 0} → Result A PlanRefusal → List Row → List Row → Type 0
+abbrev pub Untouched : {A E Row : Type 0} → Result A E → List Row → List Row → Type 0
 Untouched (Ok x) old new = Unit {0}
 Untouched (Err f) old new = new ≡ old

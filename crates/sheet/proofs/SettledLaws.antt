@@ -25,10 +25,10 @@ use Rattle.plan.specs.Refusals.{is-table, board-refusal, refused, make-refused,
 use Rattle.plan.specs.declared.answer.PlanRefusal.{PlanRefusal}
 use Rattle.plan.specs.declared.answer.PlanRefusal.the-variants as plan
 use Rattle.plan.specs.declared.answer.Verdict.{Verdict}
-use Rattle.plan.specs.Views.{stored}
+use Rattle.plan.specs.Views.{stored, Untouched}
 use Rattle.sheet.specs.Reading.{Held, roomy}
 use Rattle.sheet.specs.declared.states.Read.{Read}
-use Rattle.sheet.specs.Settled.{Ran, ran-unless, ran, ran-to, given-to, Untouched, windows-of, by-plan, Settling, settled-to, settled, left}
+use Rattle.sheet.specs.Settled.{Ran, ran-unless, ran, ran-to, given-to, windows-of, by-plan, Settling, settled-to, settled, left}
 use Rattle.sheet.specs.declared.fault.Fault.{Fault}
 use Rattle.windows.specs.Rows.{span-numbers}
 

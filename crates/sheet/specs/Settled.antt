@@ -1,5 +1,4 @@
 -- What settling and printing a sheet that was read do.
-use mathlib.Core.Path.{_≡_}
 use mathlib.Core.Bool.{cond}
 use mathlib.Core.List.{List, map}
 use Prim.Native.Nat.{ℕ}
@@ -16,7 +15,7 @@ use Rattle.policies.specs.Waiting.{first}
 use Rattle.plan.specs.Settling.{settling}
 use Rattle.plan.specs.Calls.{making}
 use Rattle.plan.specs.Refusals.{make-refused}
-use Rattle.plan.specs.Views.{stored}
+use Rattle.plan.specs.Views.{store-after}
 use Rattle.plan.specs.declared.answer.PlanRefusal.{PlanRefusal}
 use Rattle.plan.specs.declared.answer.PlanRefusal.the-variants as plan
 use Rattle.plan.specs.declared.answer.Verdict.{Verdict}
@@ -50,15 +49,9 @@ rows-ran rules rows store = ran rules (map span-numbers rows) (length store)
 abbrev pub ran-to : Result Verdict PlanRefusal → List SpanRow → Ran
 ran-to r rows = record { answer = r; after = map span-numbers rows }
 
--- a refused settling leaves the very rows
-abbrev pub Untouched : {A E : Type 0} → Result A E → List SpanRow → List SpanRow → Type 0
-Untouched (Ok v) old new = Unit {0}
-Untouched (Err f) old new = new ≡ old
-
 -- the store after a settling with this answer: the windows as they were given stand at its front
 abbrev pub given-to : {A E : Type 0} → Result A E → List SpanRow → List SpanRow → List SpanRow
-given-to (Ok v) store rows = stored store 0 rows
-given-to (Err f) store rows = store
+given-to r store rows = store-after r store 0 rows
 
 -- ---- settling a sheet
 -- the windows of a sheet as they stand in its rows

@@ -5,11 +5,11 @@ use native.Mathlib.Omega.{arith}
 use lib.ListN.{length}
 use Rattle.std.proofs.shelf.Lists.{length-map}
 use Rattle.std.specs.declared.result.Result.the-variants.{Err}
-use Rattle.plan.specs.Views.{stored}
+use Rattle.plan.specs.Views.{stored, Untouched}
 use Rattle.windows.specs.Rows.{span-numbers}
 use Rattle.windows.specs.declared.span.SpanRow.{SpanRow}
 use Rattle.books.specs.DayBooks.{day-rules}
-use Rattle.sheet.specs.Settled.{ran, ran-to, Untouched}
+use Rattle.sheet.specs.Settled.{ran, ran-to}
 use Rattle.sheet.proofs.SettledLaws.{ran-asked, stores, given-stored, copied, copied-long}
 use Rattle.sheet.proofs.states.settling.settle_rows.Needs as need
 

@@ -1,5 +1,6 @@
 use mathlib.Core.Path.{sym, ap, subst, _∙_}
-use Rattle.sheet.specs.Settled.{ran-to, Untouched}
+use Rattle.plan.specs.Views.{Untouched}
+use Rattle.sheet.specs.Settled.{ran-to}
 use Rattle.sheet.proofs.states.settling.settle_slices.Needs as need
 
 -- the board lends the rows and the store to its end, so they hold what the settling left there
