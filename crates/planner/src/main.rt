@@ -74,8 +74,10 @@ fn main(rt: LibcRuntime) -> io::Result<()> {
     let mut store = vec![in heap; none; 1024]?;
     let mut out = vec![in heap; 0u8; MOST_TEXT]?;
     match list(&input, &mut book, &mut rows, &mut store, &mut out) {
-        Ok(length) if length <= out.len() => rt.write_all(&out[0..length]),
-        Ok(_) => Ok(()),
+        Ok(length) => {
+            out.truncate(length);
+            rt.write_all(&out)
+        }
         Err(fault) => {
             let number = fault.number();
             let layer = layer_name(fault.layer());
