@@ -1,7 +1,7 @@
 -- The laws of the rules of the day book.
 use Rattle.std.specs.Prelude.{◌≡◌, ℕ, ◌<◌, true, false, None}
 use Rattle.windows.specs.Kinds.{Of, spans}
-use Rattle.windows.proofs.SpanLaws.{spans_proper}
+use Rattle.windows.specs.SpanLaws.{spans_proper}
 use Rattle.rulebook.specs.Rules.{Lawful}
 use Rattle.pairs.proofs.PairLaws.{same_lawful, differ_lawful, pair_within, pair_near}
 use Rattle.products.proofs.ProductLaws.{product_lawful, product_near, product_within}

@@ -1,4 +1,6 @@
 // The rulebooks of the planner.
+#![tactic(auto)]
+
 mod book;
 mod day;
 mod post;

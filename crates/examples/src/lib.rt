@@ -1,4 +1,6 @@
 // The worked examples, computed from the definitions of the rules and of settling.
+#![tactic(auto)]
+
 ghost use Rattle.std.specs.Prelude.{◌≡◌, true, length};
 ghost use Rattle.examples.specs.Examples.{all_stand, examples};
 

@@ -1,4 +1,6 @@
 // The listing: the text that a settled sheet is printed as.
+#![tactic(auto)]
+
 mod shown;
 mod text;
 

@@ -3,7 +3,7 @@ use Rattle.std.proofs.Common.{◌≡◌, ℕ, true, not, ℤ, arith}
 use Rattle.std.proofs.lemmas.Int.{ints}
 use Rattle.windows.specs.Sets.{eq_z}
 use Rattle.windows.specs.Kinds.{Kind}
-use Rattle.windows.proofs.SetLaws.{tests}
+use Rattle.windows.specs.SetLaws.{tests}
 use Rattle.rulebook.specs.Tables.{place}
 use Rattle.rulebook.specs.Rules.{Means}
 use Rattle.rules.specs.Pointwise.{rule_of}

@@ -3,7 +3,7 @@ use Rattle.std.proofs.Common.{◌≡◌, ℕ, suc, ◌<◌, ◌≤◌, min, max,
 use Rattle.std.proofs.lemmas.Bool.Decides.{nat_tests, eqb_tells}
 use Rattle.windows.specs.Sets.{eq_z, has, In, Within, Rising, meet}
 use Rattle.windows.specs.Kinds.{Kind, Of, Proper}
-use Rattle.windows.proofs.SetLaws.{tests, never, in_cons, in_here, within_both}
+use Rattle.windows.specs.SetLaws.{tests, never, in_cons, in_here, within_both}
 use Rattle.windows.proofs.KindLaws.{in_meet, meet_in, meet_of, but_within, but_kind, but_mono, but_keeps}
 use Rattle.rulebook.specs.Tables.{Table, Placing, window, place, filled, Inside, Places, Every}
 use Rattle.rulebook.specs.Rules.{Agree, Lawful}

@@ -3,8 +3,8 @@ use Rattle.std.proofs.Common.{◌≡◌, ℕ, ◌<◌, ◌≤◌, Bool, true, fa
 use Rattle.std.proofs.lemmas.List.{length-append, length-take, length-set, take-take, take_at, take_all, get_or-take, get_or_append_left, get_or_push, get_or-set_same, set-get_or}
 use Rattle.std.proofs.lemmas.Bool.{cases_Bool, both_ways, cases_eq}
 use Rattle.windows.specs.Sets.{same_set, meet}
-use Rattle.windows.proofs.SetLaws.{none_within, never}
-use Rattle.windows.proofs.SpanLaws.{same_set_is}
+use Rattle.windows.specs.SetLaws.{none_within, never}
+use Rattle.windows.specs.SpanLaws.{same_set_is}
 use Rattle.rulebook.specs.Tables.{Table, Placing, window, Inside, Places, Every}
 use Rattle.rulebook.specs.Rules.{Rule, narrowed, missing, Lawful}
 use Rattle.rulebook.specs.Answers.{reads_at}

@@ -3,7 +3,7 @@ use Rattle.std.proofs.Common.{◌≡◌, ℕ, ◌<◌, ◌≤◌, true, false, n
 use Rattle.std.proofs.lemmas.List.{get_or_past}
 use Rattle.std.proofs.lemmas.Bool.{cases_lt, cases_Bool, both_ways, not-false, and_cases}
 use Rattle.windows.specs.Sets.{same_set}
-use Rattle.windows.proofs.SpanLaws.{same_set_is}
+use Rattle.windows.specs.SpanLaws.{same_set_is}
 use Rattle.rulebook.specs.Tables.{Table, Placing, window, Inside, Every, differs}
 use Rattle.rulebook.specs.Rules.{Rule, Outcome, narrowed, emptied, missing, Alike, Lawful}
 use Rattle.plan.specs.Settling.{touched}

@@ -4,7 +4,7 @@ use native.Mathlib.Nat.{mul-sub}
 use Rattle.std.proofs.lemmas.Bool.{cases_Bool, both_ways, cases_eq, and_left, not_from_true}
 use Rattle.std.proofs.lemmas.List.{nil_from_length}
 use Rattle.windows.specs.Sets.{same_set, sizes}
-use Rattle.windows.proofs.SpanLaws.{same_set_self}
+use Rattle.windows.specs.SpanLaws.{same_set_self}
 use Rattle.rulebook.specs.Tables.{Table, window, Inside, Every, differs}
 use Rattle.rulebook.specs.Rules.{Rule, Outcome, narrowed, emptied, missing, Lawful}
 use Rattle.plan.specs.Steady.{Steady}

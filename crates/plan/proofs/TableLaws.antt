@@ -3,7 +3,7 @@ use Rattle.std.proofs.Common.{◌≡◌, ℕ, suc, ◌*◌, ◌<◌, ◌≤◌, 
 use Rattle.std.proofs.lemmas.List.{ext_get_or, get_or-set_same, get_or-set_other, length-set}
 use Rattle.std.proofs.lemmas.Bool.{cases_eq}
 use Rattle.windows.specs.Sets.{In, Within, Rising, meet, sizes}
-use Rattle.windows.proofs.SetLaws.{within_both}
+use Rattle.windows.specs.SetLaws.{within_both}
 use Rattle.windows.proofs.KindLaws.{smaller, in_meet, meet_in}
 use Rattle.rulebook.specs.Tables.{Table, Placing, window, place, Inside, Places, Every}
 use Rattle.plan.proofs.ProperSets.{ProperSets}

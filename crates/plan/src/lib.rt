@@ -1,4 +1,6 @@
 // Plans: a rulebook and a policy that narrow the windows of a lent board.
+#![tactic(auto)]
+
 mod answer;
 mod board;
 mod plan;

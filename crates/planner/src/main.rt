@@ -1,4 +1,6 @@
 // Reads a sheet from the standard input, settles it, and prints its listing, or one line that says why it was refused.
+#![tactic(auto)]
+
 use books::DayBook;
 use plan::Verdict;
 use sheet::{Fault, Layer, Lent, Open, Read};

@@ -1,4 +1,6 @@
 // Policies: which waiting rule is taken next.
+#![tactic(auto)]
+
 mod first_come;
 mod lowest_first;
 mod policy;

@@ -2,7 +2,7 @@
 use Rattle.std.proofs.Common.{◌≡◌, ℕ, true, ℤ, ◌*ℤ◌, arith}
 use Rattle.std.proofs.lemmas.Int.{ints}
 use Rattle.windows.specs.Sets.{eq_z}
-use Rattle.windows.proofs.SetLaws.{tests}
+use Rattle.windows.specs.SetLaws.{tests}
 use Rattle.rulebook.specs.Tables.{place}
 use Rattle.rulebook.specs.Rules.{Means}
 use Rattle.rules.specs.Pointwise.{rule_of}

@@ -6,8 +6,8 @@ use Rattle.std.specs.Int.{int_min, int_max, int_div_euclid}
 use Rattle.std.proofs.lemmas.Int.{ints, clamps}
 use Rattle.windows.specs.Sets.{In, range, between}
 use Rattle.windows.specs.Rows.{Stands}
-use Rattle.windows.proofs.SetLaws.{tests, never, le_z_tells, lt_z_tells, bool_same, min_z_tells, max_z_tells, between_is, is_between, range_some}
-use Rattle.windows.proofs.SpanLaws.{in_range, range_in}
+use Rattle.windows.specs.SetLaws.{tests, never, le_z_tells, lt_z_tells, bool_same, min_z_tells, max_z_tells, between_is, is_between, range_some}
+use Rattle.windows.specs.SpanLaws.{in_range, range_in}
 use Rattle.sums.specs.Sizes.{Small}
 use Rattle.sums.proofs.Signed.{mul_between}
 use Rattle.sums.proofs.SumCode.{floor_is, times_neg, neg_times}

@@ -5,7 +5,7 @@ use Rattle.std.proofs.lemmas.Int.{ints}
 use Rattle.std.proofs.lemmas.Bool.Decides.{nat_tests, eqb_tells}
 use Rattle.windows.specs.Sets.{eq_z, In, Within, between, least_by, greatest_by, least, greatest}
 use Rattle.windows.specs.Kinds.{Of, spans}
-use Rattle.windows.proofs.SetLaws.{tests, between_is, is_between, within_kept, in_kept, kept_passes, rising_kept, least_bounds, greatest_bounds, least_reached, greatest_reached, least_within, greatest_within, Gapless, hull_kept}
+use Rattle.windows.specs.SetLaws.{tests, between_is, is_between, within_kept, in_kept, kept_passes, rising_kept, least_bounds, greatest_bounds, least_reached, greatest_reached, least_within, greatest_within, Gapless, hull_kept}
 use Rattle.rulebook.specs.Tables.{Table, Placing, window, place, Inside, Places, Every}
 use Rattle.rulebook.specs.Rules.{Agree, Lawful}
 use Rattle.rules.specs.Pointwise.{rule_of}

@@ -6,7 +6,7 @@ use Rattle.std.proofs.lemmas.Bool.Decides.{nat_tests}
 use Rattle.windows.specs.Sets.{range, between, least, greatest}
 use Rattle.windows.specs.Rows.{Stands}
 use Rattle.windows.specs.declared.span.Span.{Span}
-use Rattle.windows.proofs.SetLaws.{kept_range, least_range, greatest_range, range_some}
+use Rattle.windows.specs.SetLaws.{kept_range, least_range, greatest_range, range_some}
 use Rattle.windows.proofs.KindLaws.{not_none}
 use Rattle.rulebook.specs.Tables.{Table, window}
 use Rattle.rulebook.specs.Answers.{outcome}

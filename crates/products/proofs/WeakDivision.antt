@@ -4,7 +4,7 @@ use lib.IntN.{*ℤ_comm, *ℤ-zero}
 use lib.Signed.{le_z, lt_z}
 use Rattle.std.proofs.lemmas.Int.{ints, clamps}
 use Rattle.windows.specs.Sets.{eq_z, between}
-use Rattle.windows.proofs.SetLaws.{tests, le_z_tells, lt_z_tells, never, between_is, is_between, Gapless}
+use Rattle.windows.specs.SetLaws.{tests, le_z_tells, lt_z_tells, never, between_is, is_between, Gapless}
 use Rattle.sums.proofs.Signed.{mul_up, mul_down, mul_between}
 use Rattle.products.specs.Products.{among_quotients, size, up_from_zero, down_from_zero, weakly_divides}
 

@@ -1,4 +1,6 @@
 // The records of a sheet: how its bytes are cut, and which record may stand where.
+#![tactic(auto)]
+
 mod record;
 mod refusal;
 

@@ -1,4 +1,6 @@
 // Rulebooks: lists of rules that narrow tables of windows, and the laws that they keep.
+#![tactic(auto)]
+
 mod answer;
 mod rulebook;
 mod set;

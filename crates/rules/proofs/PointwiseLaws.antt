@@ -8,7 +8,7 @@ use Rattle.windows.specs.Sets.{has, In, Within}
 use Rattle.rulebook.specs.Tables.{Table, Placing, window, place, Inside, Places, Every}
 use Rattle.rulebook.specs.Rules.{Outcome, narrowed, emptied, Agree, Alike, Lawful}
 use Rattle.rules.specs.Pointwise.{empty_at, judged, make_all, narrow_by, Pointwise, rule_of, Entry, has_entry, replaced}
-use Rattle.windows.proofs.SetLaws.{never, within_some}
+use Rattle.windows.specs.SetLaws.{never, within_some}
 
 -- ---- what a judgement tells
 -- the windows of N before k have numbers

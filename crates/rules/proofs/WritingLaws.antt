@@ -4,7 +4,7 @@ use Rattle.std.specs.List.{AllByRecursion as All}
 use Rattle.std.proofs.lemmas.List.{get_or_past, get_or-set_same, get_or-set_other, length-set, length-map, set_past, length-take, length-take-le, drop_more, drop_all, get_or-map, get_or-take, take_more_set, map-append, map-set, set-get_or, at_drop_more, at_drop_all}
 use Rattle.std.proofs.lemmas.Bool.Decides.{nat_tests, eqb_tells}
 use Rattle.windows.specs.Sets.{same_set}
-use Rattle.windows.proofs.SpanLaws.{same_set_self, same_set_is}
+use Rattle.windows.specs.SpanLaws.{same_set_self, same_set_is}
 use Rattle.rulebook.specs.Tables.{Table, window, differs, filled, all_filled}
 use Rattle.rulebook.specs.Rules.{narrowed, emptied}
 use Rattle.rulebook.specs.Answers.{member, outcome, Tells}

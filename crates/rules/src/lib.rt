@@ -1,4 +1,6 @@
 // Rules that are given window by window, and books as lists of such rules.
+#![tactic(auto)]
+
 mod book;
 mod new_windows;
 mod rule;

@@ -9,9 +9,9 @@ use Rattle.std.proofs.lemmas.Bool.{cases_order}
 use Rattle.std.proofs.lemmas.Bool.Decides.{nat_tests}
 use Rattle.windows.specs.Sets.{eq_z, has, In, Rising, up_from, count, range, between, meet, remove, sole_of, same_set}
 use Rattle.windows.specs.Kinds.{Of, Proper, Smallest, all_but}
-use Rattle.windows.proofs.SetLaws.{tests, never, bool_same, in_here, rising_same, has_kept, has_range, rising_range, rising_kept, within_kept, has_meet, has_remove}
+use Rattle.windows.specs.SetLaws.{tests, never, bool_same, in_here, rising_same, has_kept, has_range, rising_range, rising_kept, within_kept, has_meet, has_remove}
 use Rattle.windows.proofs.KindLaws.{meet_in, rising_meet, remove_in, rising_remove, smallest_from, but_none}
-use Rattle.windows.proofs.SpanLaws.{range_in, same_set_is, same_set_self}
+use Rattle.windows.specs.SpanLaws.{range_in, same_set_is, same_set_self}
 use Rattle.sets.specs.Masks.{bit_set, mask_numbers, set_stands, set_numbers, parts}
 use Rattle.sets.specs.declared.set.SetRow.{SetRow}
 use Rattle.sets.specs.declared.set.Set.{Set}

@@ -4,9 +4,9 @@ use Rattle.std.proofs.lemmas.Int.{ints}
 use Rattle.windows.specs.Sets.{range}
 use Rattle.windows.specs.Rows.{Stands, span_stands, span_numbers}
 use Rattle.windows.specs.declared.span.SpanRow.{SpanRow}
-use Rattle.windows.proofs.SetLaws.{tests, range_some}
+use Rattle.windows.specs.SetLaws.{tests, range_some}
 use Rattle.windows.proofs.KindLaws.{not_none}
-use Rattle.windows.proofs.SpanLaws.{row_is, row_none}
+use Rattle.windows.specs.SpanLaws.{row_is, row_none}
 use Rattle.rulebook.specs.Rules.{Rule}
 use Rattle.rulebook.specs.Answers.{Posted, posted}
 use Rattle.rulebook.specs.declared.answer.BookRefusal.{BookRefusal}

@@ -1,4 +1,6 @@
 // A sheet: a row of records that gives the windows and the rules of a plan.
+#![tactic(auto)]
+
 mod fault;
 mod item;
 mod lent;

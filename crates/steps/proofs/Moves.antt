@@ -5,7 +5,7 @@ use lib.Bits.{bit_and}
 use Rattle.std.proofs.lemmas.Nat.{and_le_l}
 use Rattle.std.proofs.lemmas.Int.{ints}
 use Rattle.windows.specs.Sets.{has, meet}
-use Rattle.windows.proofs.SetLaws.{between_is, kept_same}
+use Rattle.windows.specs.SetLaws.{between_is, kept_same}
 use Rattle.sets.specs.Masks.{mask_numbers, set_numbers}
 use Rattle.sets.specs.declared.set.Set.{Set}
 use Rattle.sets.specs.declared.set.SetRow.{SetRow}

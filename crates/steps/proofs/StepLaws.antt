@@ -3,7 +3,7 @@ use Rattle.std.proofs.Common.{◌≡◌, ℕ, ◌<◌, true, ◌⊎◌, List, []
 use Rattle.std.proofs.lemmas.Int.{ints}
 use Rattle.windows.specs.Sets.{eq_z, has, In}
 use Rattle.windows.specs.Kinds.{Of}
-use Rattle.windows.proofs.SetLaws.{tests, within_kept, in_kept, kept_passes, rising_kept}
+use Rattle.windows.specs.SetLaws.{tests, within_kept, in_kept, kept_passes, rising_kept}
 use Rattle.windows.proofs.KindLaws.{part_of}
 use Rattle.sets.specs.Masks.{parts}
 use Rattle.rulebook.specs.Tables.{Table, window, place}

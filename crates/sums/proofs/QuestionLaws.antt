@@ -5,7 +5,7 @@ use Rattle.std.proofs.lemmas.List.{at_drop_more, at_drop_all}
 use Rattle.std.proofs.lemmas.Bool.Decides.{nat_tests}
 use Rattle.std.proofs.lemmas.Int.{ints}
 use Rattle.windows.specs.Sets.{eq_z}
-use Rattle.windows.proofs.SetLaws.{tests, never, between_is}
+use Rattle.windows.specs.SetLaws.{tests, never, between_is}
 use Rattle.rulebook.specs.declared.answer.BookRefusal.{BookRefusal}
 use Rattle.sums.specs.Sums.{in_terms}
 use Rattle.sums.specs.Questions.{terms_fit, windows_below, apart, weighs, weights_fit, bound_fits, given, sum_asks}

@@ -9,7 +9,7 @@ use Rattle.windows.specs.Sets.{range, between, least_by, greatest_by}
 use Rattle.windows.specs.Rows.{Stands}
 use Rattle.sums.specs.Sizes.{Weighs, Small}
 use Rattle.sums.specs.Sums.{weighed}
-use Rattle.windows.proofs.SetLaws.{bool_same, range_none, least_range, greatest_range}
+use Rattle.windows.specs.SetLaws.{bool_same, range_none, least_range, greatest_range}
 use Rattle.sums.proofs.Signed.{mul_up, mul_down}
 
 -- ---- products

@@ -13,7 +13,7 @@ use Rattle.sums.specs.Meaning.{terms_of, sum_meaning, posted_meaning}
 use Rattle.sums.specs.declared.posted.Term.{Term}
 use Rattle.sums.specs.declared.posted.PostedSum.{PostedSum}
 use Rattle.sums.specs.declared.sum.Sum.{Sum}
-use Rattle.windows.proofs.SetLaws.{tests, within_kept, in_kept, kept_passes, kept_same, rising_kept, least_bounds, greatest_bounds, least_within, greatest_within, Gapless, hull_kept}
+use Rattle.windows.specs.SetLaws.{tests, within_kept, in_kept, kept_passes, kept_same, rising_kept, least_bounds, greatest_bounds, least_within, greatest_within, Gapless, hull_kept}
 use Rattle.rules.proofs.PointwiseLaws.{lawful}
 use Rattle.sums.proofs.Signed.{mul_between}
 use Rattle.sums.proofs.QuestionLaws.{accepted, below_read}

@@ -9,8 +9,8 @@ use Rattle.windows.specs.Sets.{range, between, least_by, greatest_by}
 use Rattle.windows.specs.Rows.{Stands, span_stands, span_numbers}
 use Rattle.windows.specs.declared.span.Span.{Span}
 use Rattle.windows.specs.declared.span.SpanRow.{SpanRow}
-use Rattle.windows.proofs.SetLaws.{tests, never, kept_range, range_some}
-use Rattle.windows.proofs.SpanLaws.{row_is, row_none}
+use Rattle.windows.specs.SetLaws.{tests, never, kept_range, range_some}
+use Rattle.windows.specs.SpanLaws.{row_is, row_none}
 use Rattle.windows.proofs.KindLaws.{not_none}
 use Rattle.rulebook.specs.Tables.{Table, window, filled, all_filled}
 use Rattle.rulebook.specs.Rules.{narrowed}

@@ -4,7 +4,7 @@ use Rattle.std.specs.List.{AllByRecursion as All}
 use Rattle.std.proofs.lemmas.List.{drop_more, drop_all}
 use Rattle.std.proofs.lemmas.Int.{ints}
 use Rattle.std.proofs.lemmas.Bool.Decides.{nat_tests, eqb_tells}
-use Rattle.windows.proofs.SetLaws.{never}
+use Rattle.windows.specs.SetLaws.{never}
 use Rattle.sums.specs.Sums.{in_terms, terms_reach, weight_at, total, total_but}
 use Rattle.sums.specs.Questions.{Apart}
 use Rattle.sums.specs.declared.posted.Term.{Term}

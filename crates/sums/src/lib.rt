@@ -1,4 +1,6 @@
 // Sums: the rules that a weighted sum of windows equals a bound, or is at most a bound.
+#![tactic(auto)]
+
 mod posted;
 mod questions;
 mod sum;

@@ -1,4 +1,6 @@
 // Tests over the layers: settling, marks, refusals and sheets.
+#![tactic(auto)]
+
 #[cfg(test)]
 mod examples;
 #[cfg(test)]

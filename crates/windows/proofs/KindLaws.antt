@@ -3,7 +3,7 @@ use Rattle.std.proofs.Common.{◌≡◌, ◌<◌, ◌≤◌, not, ◌⊎◌, Lis
 use Rattle.std.proofs.lemmas.Int.{ints}
 use Rattle.windows.specs.Sets.{eq_z, has, In, Within, Rising, count, range, meet, remove}
 use Rattle.windows.specs.Kinds.{Kind, Of, Proper, Smallest, all_but}
-use Rattle.windows.proofs.SetLaws.{tests, never, is_between, in_cons, in_here, in_there, has_above, above_rising, within_both, none_within, rising_kept, rising_range, has_range, length_range, has_meet, has_remove}
+use Rattle.windows.specs.SetLaws.{tests, never, is_between, in_cons, in_here, in_there, has_above, above_rising, within_both, none_within, rising_kept, rising_range, has_range, length_range, has_meet, has_remove}
 
 -- ---- sizes
 -- a set inside another has fewer numbers, or is the same

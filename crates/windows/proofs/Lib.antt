@@ -1,4 +1,3 @@
-pub mod SetLaws
 pub mod KindLaws
-pub mod SpanLaws
+pub mod SmallestLaws
 pub mod SizeLaws

@@ -1,3 +1,5 @@
 pub mod Sets
 pub mod Kinds
 pub mod Rows
+pub mod SetLaws
+pub mod SpanLaws

@@ -1,4 +1,6 @@
 // Windows: sets of whole numbers that are never empty, and the kinds that they come in.
+#![tactic(auto)]
+
 mod sizes;
 mod span;
 mod window;

@@ -4,7 +4,7 @@ ghost use Rattle.std.specs.Int.{w32};
 ghost use Rattle.windows.specs.Sets.{eq_z, range, sole_of};
 ghost use Rattle.windows.specs.Kinds.{spans};
 ghost use Rattle.windows.specs.Rows.{Stands, Checked, span_numbers};
-ghost use Rattle.std.proofs.Common.{rules, arith};
+ghost use Rattle.windows.specs.SpanLaws.{spans_proper, span_of, row_of, row_faithful};
 
 use crate::window::Window;
 
@@ -84,13 +84,13 @@ impl Window for Span {
 
     ghost stands = { λ row. span_numbers row };
 
-    ghost proper = { first_of (Prim.search rules, Prim.grind (arith, Self.row.coded.inj)) };
+    ghost proper = { spans_proper };
 
-    ghost kinds = { first_of (Prim.search rules, Prim.grind (arith, Self.row.coded.inj)) };
+    ghost kinds = { λ w. span_of w.lo w.hi w.stands.0 w.stands.1 w.stands.2 };
 
-    ghost rows = { first_of (Prim.search rules, Prim.grind (arith, Self.row.coded.inj)) };
+    ghost rows = { row_of };
 
-    ghost faithful = { first_of (Prim.search rules, Prim.grind (arith, Self.row.coded.inj)) };
+    ghost faithful = { row_faithful };
 
     fn from_row(row: SpanRow) -> Option<Span> {
         if row.stands() {

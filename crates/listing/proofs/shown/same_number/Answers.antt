@@ -1,5 +1,5 @@
 use Rattle.std.proofs.Common.{w32, SFits, rules}
-use Rattle.windows.proofs.SpanLaws.{bits_same}
+use Rattle.windows.specs.SpanLaws.{bits_same}
 use Rattle.listing.proofs.shown.same_number.Goals as goal
 
 pub returns : goal.returns

@@ -1,6 +1,6 @@
 use Rattle.std.proofs.Common.{arith}
 use Rattle.std.proofs.lemmas.Int.{ints}
-use Rattle.windows.proofs.SpanLaws.{size_range}
+use Rattle.windows.specs.SpanLaws.{size_range}
 use Rattle.windows.proofs.span.count.Goals as goal
 
 pub returns : goal.returns

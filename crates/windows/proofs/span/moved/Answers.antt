@@ -1,7 +1,7 @@
 use Rattle.std.proofs.Common.{◌≡◌, true, false, arith}
 use Rattle.std.proofs.lemmas.Int.{ints, to_z-of_z}
 use Rattle.windows.specs.Sets.{eq_z}
-use Rattle.windows.proofs.SetLaws.{tests}
+use Rattle.windows.specs.SetLaws.{tests}
 use Rattle.windows.proofs.span.moved.Goals as goal
 
 pub returns-then-v-end : goal.returns-then-v-end

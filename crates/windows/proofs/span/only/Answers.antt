@@ -1,6 +1,6 @@
 use Rattle.std.proofs.Common.{◌≡◌, sym, arith}
 use Rattle.std.proofs.lemmas.Int.{ints}
-use Rattle.windows.proofs.SpanLaws.{back, sole_range_one, sole_range_more}
+use Rattle.windows.specs.SpanLaws.{back, sole_range_one, sole_range_more}
 use Rattle.windows.proofs.span.only.Goals as goal
 
 pub returns-then-lo-hi : goal.returns-then-lo-hi

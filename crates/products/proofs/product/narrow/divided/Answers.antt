@@ -1,6 +1,6 @@
 use Rattle.std.proofs.Common.{w64, SFits}
 use Rattle.std.proofs.lemmas.Int.{to_z-of_z}
-use Rattle.windows.proofs.SpanLaws.{fits_lo, fits_hi}
+use Rattle.windows.specs.SpanLaws.{fits_lo, fits_hi}
 use Rattle.sums.proofs.SumCode.{widen}
 use Rattle.products.proofs.ProductSteps.{divided_is}
 use Rattle.products.proofs.product.narrow.divided.Goals as goal

@@ -1,6 +1,6 @@
 use Rattle.std.proofs.Common.{w64, SFits, rules}
 use Rattle.std.proofs.lemmas.Int.{to_z-of_z}
-use Rattle.windows.proofs.SpanLaws.{fits_lo, fits_hi}
+use Rattle.windows.specs.SpanLaws.{fits_lo, fits_hi}
 use Rattle.products.proofs.ProductCode.{joined_least, joined_greatest, ends_small, fits}
 use Rattle.products.proofs.product.narrow.products.Goals as goal
 

@@ -1,6 +1,6 @@
 use Rattle.std.proofs.Common.{◌≡◌, true, arith, w32}
 use Rattle.std.proofs.lemmas.Int.{ints, to_z-of_z}
-use Rattle.windows.proofs.SetLaws.{tests}
+use Rattle.windows.specs.SetLaws.{tests}
 use Rattle.steps.specs.Steps.{in_reach}
 use Rattle.steps.proofs.StepLaws.{step_means, accepted}
 use Rattle.steps.proofs.step.Step.check.Goals as goal

@@ -1,6 +1,6 @@
 use Rattle.std.proofs.Common.{pos, negsuc, arith, w32}
 use Rattle.std.proofs.lemmas.Int.{ints, to_z-of_z}
-use Rattle.windows.proofs.SetLaws.{between_is}
+use Rattle.windows.specs.SetLaws.{between_is}
 use Rattle.steps.proofs.Moves.{moved_down, moved_up, turned}
 use Rattle.steps.proofs.step.narrow.moved_back.Goals as goal
 

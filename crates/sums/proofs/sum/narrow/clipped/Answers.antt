@@ -1,7 +1,7 @@
 use Rattle.std.proofs.Common.{w32, w64, SFits, to_z, of_z, rules}
 use Rattle.std.proofs.lemmas.Int.{to_z-of_z}
 use Rattle.windows.specs.declared.span.SpanRow.{SpanRow}
-use Rattle.windows.proofs.SpanLaws.{fits_lo, fits_hi}
+use Rattle.windows.specs.SpanLaws.{fits_lo, fits_hi}
 use Rattle.sums.proofs.SumCode.{widen, clipped_ends, clipped_fits, clipped_none}
 use Rattle.sums.proofs.SumSteps.{window_from}
 use Rattle.sums.proofs.sum.narrow.clipped.Goals as goal

@@ -2,7 +2,7 @@ use Rattle.std.proofs.Common.{map, sym, ap, ◌∙◌, w64, SFits, rules}
 use Rattle.std.proofs.lemmas.Int.{to_z-of_z}
 use Rattle.std.proofs.lemmas.List.{take_all}
 use Rattle.windows.specs.Rows.{span_numbers}
-use Rattle.windows.proofs.SpanLaws.{fits_lo, fits_hi}
+use Rattle.windows.specs.SpanLaws.{fits_lo, fits_hi}
 use Rattle.sums.specs.Sums.{sum_new}
 use Rattle.sums.specs.Steps.{entries, new_entries}
 use Rattle.sums.proofs.QuestionLaws.{bound_is}

@@ -1,7 +1,7 @@
 use Rattle.std.proofs.Common.{◌+◌, ◌<◌, ◌≤◌, map, get_or, drop, sym, subst, arith, w64, SFits, rules}
 use Rattle.std.proofs.lemmas.Int.{to_z-of_z}
 use Rattle.windows.specs.Rows.{span_numbers}
-use Rattle.windows.proofs.SpanLaws.{fits_lo, fits_hi}
+use Rattle.windows.specs.SpanLaws.{fits_lo, fits_hi}
 use Rattle.sums.specs.Sums.{term_least, term_greatest}
 use Rattle.sums.specs.Steps.{all_read, ExtremesOf}
 use Rattle.sums.proofs.QuestionLaws.{stopped, passed, ended}

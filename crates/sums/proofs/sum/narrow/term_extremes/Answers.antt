@@ -1,7 +1,7 @@
 use Rattle.std.proofs.Common.{sym, ◌∙◌, subst, ap₂, w64, SFits, rules}
 use Rattle.std.specs.Int.{int_min, int_max}
 use Rattle.std.proofs.lemmas.Int.{to_z-of_z}
-use Rattle.windows.proofs.SpanLaws.{fits_lo, fits_hi}
+use Rattle.windows.specs.SpanLaws.{fits_lo, fits_hi}
 use Rattle.sums.specs.Sizes.{Small}
 use Rattle.sums.proofs.SumCode.{least_ends, greatest_ends, min_small, max_small}
 use Rattle.sums.proofs.sum.narrow.term_extremes.Goals as goal

@@ -1,8 +1,8 @@
 use Rattle.std.proofs.Common.{subst, arith}
 use Rattle.std.proofs.lemmas.Int.{ints}
 use Rattle.windows.specs.Rows.{Checked}
-use Rattle.windows.proofs.SetLaws.{tests}
-use Rattle.windows.proofs.SpanLaws.{checked}
+use Rattle.windows.specs.SetLaws.{tests}
+use Rattle.windows.specs.SpanLaws.{checked}
 use Rattle.windows.proofs.span.SpanRow.stands.Goals as goal
 use Rattle.windows.proofs.span.SpanRow.stands.Goals.{then-self, else-self}
 

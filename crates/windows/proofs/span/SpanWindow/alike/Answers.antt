@@ -1,6 +1,6 @@
 use Rattle.std.proofs.Common.{arith}
 use Rattle.std.proofs.lemmas.Bool.Decides.{nat_tests}
-use Rattle.windows.proofs.SpanLaws.{alike_is}
+use Rattle.windows.specs.SpanLaws.{alike_is}
 use Rattle.windows.proofs.span.SpanWindow.alike.Goals as goal
 
 pub returns-then-self-other : goal.returns-then-self-other

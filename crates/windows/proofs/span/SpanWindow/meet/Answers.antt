@@ -1,7 +1,7 @@
 use Rattle.std.proofs.Common.{◌≡◌, [], sym, ap, ◌∙◌, subst, w32, SFits, rules, MatchOption}
 use Rattle.std.proofs.lemmas.Int.{to_z-of_z}
 use Rattle.windows.specs.Sets.{range, meet}
-use Rattle.windows.proofs.SpanLaws.{fits_lo, fits_hi, meet_range}
+use Rattle.windows.specs.SpanLaws.{fits_lo, fits_hi, meet_range}
 use Rattle.windows.proofs.span.SpanWindow.meet.Goals as goal
 
 pub returns : goal.returns
@@ -17,4 +17,4 @@ returns c =
     let l = simp to_z-of_z at c.max.ensures.value in
     let h = simp to_z-of_z at c.min.ensures.value in
     let q : range c.max.result c.min.result ≡ meet (range a.lo a.hi) (range b.lo b.hi) = ap (λ z. range z c.min.result) l ∙ ap (range _) h ∙ sym (meet_range a.lo a.hi b.lo b.hi) in
-    subst (λ u. MatchOption c.from-ends.result (u ≡ []) (λ w. range w.lo w.hi ≡ u)) q (simp to_z-of_z at c.from-ends.ensures)
+    subst (λ u. MatchOption c.from_ends.result (u ≡ []) (λ w. range w.lo w.hi ≡ u)) q (simp to_z-of_z at c.from_ends.ensures)

@@ -1,4 +1,4 @@
-use Rattle.windows.proofs.SpanLaws.{back, row_is}
+use Rattle.windows.specs.SpanLaws.{back, row_is}
 use Rattle.windows.proofs.span.SpanWindow.row.Goals as goal
 
 pub returns : goal.returns

@@ -2,11 +2,12 @@ use Rattle.std.proofs.Common.{◌≡◌, [], sym, ap, ◌∙◌, subst, arith, w
 use Rattle.std.proofs.lemmas.Int.{ints, to_z-of_z}
 use Rattle.windows.specs.Sets.{range}
 use Rattle.windows.specs.Kinds.{spans, all_but}
-use Rattle.windows.proofs.SpanLaws.{span_of, fits_lo, fits_hi, all_but_ends, span_smallest, moved_low, moved_high}
+use Rattle.windows.specs.SpanLaws.{span_of, fits_lo, fits_hi, all_but_ends, moved_low, moved_high}
+use Rattle.windows.proofs.SmallestLaws.{span_smallest}
 use Rattle.windows.proofs.span.SpanWindow.without.Goals as goal
 
-pub from-ends-requires : goal.from-ends-requires
-from-ends-requires c =
+pub from_ends-requires : goal.from_ends-requires
+from_ends-requires c =
     let s = c.args.self.now.stands in
     let fl = fits_lo _ _ s in
     let fh = fits_hi _ _ s in
@@ -32,5 +33,5 @@ returns c =
     let e = all_but_ends c.args.self.now.lo c.args.self.now.hi c.args.v s.0 in
     let q : range c.moved.result c.moved-2.result ≡ all_but spans (range c.args.self.now.lo c.args.self.now.hi) c.args.v = ap (λ z. range z c.moved-2.result) l ∙ ap (range _) h ∙ sym e in
     let o = span_of c.args.self.now.lo c.args.self.now.hi s.0 s.1 s.2 in
-    let t = subst (λ u. MatchOption c.from-ends.result (u ≡ []) (λ w. range w.lo w.hi ≡ u)) q (simp to_z-of_z at c.from-ends.ensures) in
-    record { equation = t; smallest = span_smallest c.from-ends.result _ c.args.v o t }
+    let t = subst (λ u. MatchOption c.from_ends.result (u ≡ []) (λ w. range w.lo w.hi ≡ u)) q (simp to_z-of_z at c.from_ends.ensures) in
+    record { equation = t; smallest = span_smallest c.from_ends.result _ c.args.v o t }

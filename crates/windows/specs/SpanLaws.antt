@@ -1,15 +1,13 @@
 -- The span kind: what its windows are, and what its calls give.
-use Rattle.std.proofs.Common.{◌≡◌, ℕ, zero, suc, ◌≤◌, Bool, true, false, cond, ◌&&◌, eqb, ◌⊎◌, List, [], ◌∷◌, length, ℤ, pos, negsuc, ◌+ℤ◌, ◌-ℤ◌, ◌≤ℤ◌, ◌<ℤ◌, Some, None, Option, sym, refl, ap, ◌∙◌, subst, ap₂, inl, inr, arith, w32, SFits, to_z, of_z, MatchOption}
+use Rattle.std.proofs.Common.{◌≡◌, ℕ, zero, suc, ◌≤◌, Bool, true, false, cond, ◌&&◌, eqb, ◌⊎◌, List, [], ◌∷◌, length, ℤ, pos, negsuc, ◌+ℤ◌, ◌-ℤ◌, ◌≤ℤ◌, ◌<ℤ◌, Some, None, sym, refl, ap, ◌∙◌, subst, ap₂, inl, inr, arith, w32, SFits, to_z, of_z}
 use Rattle.std.specs.Int.{int_min, int_max}
 use Rattle.std.proofs.lemmas.Int.{ints, to_z-of_z}
 use Rattle.std.proofs.lemmas.Bool.Decides.{nat_tests}
 use Rattle.windows.specs.Sets.{eq_z, has, In, Within, up_from, count, range, hull, meet, remove, sole_of, same_set}
-use Rattle.windows.specs.Kinds.{Of, Proper, Smallest, all_but, spans}
+use Rattle.windows.specs.Kinds.{Of, Proper, all_but, spans}
 use Rattle.windows.specs.Rows.{Stands, Checked, span_stands, span_numbers}
 use Rattle.windows.specs.declared.span.SpanRow.{SpanRow}
-use Rattle.windows.specs.declared.span.Span.{Span}
-use Rattle.windows.proofs.KindLaws.{smallest_from, but_none}
-use Rattle.windows.proofs.SetLaws.{tests, never, bool_same, eq_z_tells, between_is, is_between, has_range, rising_range, range_some, count_is, length_range, kept_range, Convex, hull_convex, convex_hull, within_hull, hull_mono, hull_again, rising_hull, hull_none, within_both, has_remove}
+use Rattle.windows.specs.SetLaws.{tests, never, bool_same, eq_z_tells, between_is, is_between, has_range, rising_range, range_some, count_is, length_range, kept_range, Convex, hull_convex, convex_hull, within_hull, hull_mono, hull_again, rising_hull, hull_none, within_both, has_remove}
 
 pub spans_proper : Proper spans
 spans_proper = record { holds = within_hull; mono = hull_mono; again = hull_again; rising = λ s r. rising_hull s; none = hull_none; from = omega (arith, ints); to = omega (arith, ints) }
@@ -98,11 +96,6 @@ all_but_ends lo hi v o = all_but_range lo hi v _ _ o (low (eq_z_tells v lo)) (hi
     high : ((eq_z v hi ≡ true) × (v ≡ hi)) ⊎ ((eq_z v hi ≡ false) × (v ≡ hi → ⊥)) → ((v ≡ hi) × (cond (eq_z v hi) (hi +ℤ negsuc 0) hi ≡ hi -ℤ pos 1)) ⊎ ((v ≡ hi → ⊥) × (cond (eq_z v hi) (hi +ℤ negsuc 0) hi ≡ hi))
     high (inl (e, q)) = inl (q, rw e refl)
     high (inr (e, q)) = inr (q, rw e refl)
-
--- the span of a set that is all numbers but v is the smallest that holds them
-pub span_smallest : (o : Option Span) (s : List ℤ) (v : ℤ) → Of spans s → MatchOption o (all_but spans s v ≡ []) (λ w. range w.lo w.hi ≡ all_but spans s v) → MatchOption o (remove v s ≡ []) (λ w. Smallest spans (remove v s) (range w.lo w.hi))
-span_smallest None s v o e = but_none spans spans_proper s v e
-span_smallest (Some w) s v o e = smallest_from spans spans_proper s _ v o (range_some w.lo w.hi w.stands.0) e
 
 -- they are in range
 pub moved_low : (lo hi v : ℤ) → Stands lo hi → (lo ≤ℤ cond (eq_z v lo) (lo +ℤ pos 1) lo) × (cond (eq_z v lo) (lo +ℤ pos 1) lo ≤ℤ pos 1000001)
