@@ -27,7 +27,7 @@ impl Policy for FirstCome {
 
     ghost choice = { first };
 
-    ghost distinct = { Prim.search rules };
+    ghost all_distinct = { Prim.search rules };
 
     ghost chooses = { Prim.search rules };
 

@@ -28,7 +28,7 @@ impl Policy for LowestFirst {
 
     ghost choice = { lowest };
 
-    ghost distinct = { Prim.search rules };
+    ghost all_distinct = { Prim.search rules };
 
     ghost chooses = { lowest_chooses };
 

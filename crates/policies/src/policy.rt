@@ -23,7 +23,7 @@ pub trait Policy {
         ensures { waiting self.new ≡ [] };
 
     // numbers below 64, none twice
-    ghost distinct: { (p : Self) → distinct (waiting p) ≡ true };
+    ghost all_distinct: { (p : Self) → distinct (waiting p) ≡ true };
 
     // the choice is one of them
     ghost chooses: { Chooses choice };

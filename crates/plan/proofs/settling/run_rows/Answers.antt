@@ -18,7 +18,7 @@ overflow-add-steps g c =
     let book = c.args.book.now in
     let rows = c.args.rows.now in
     let few : length (map g.Kind.Window.stands rows) ≤ 64 = simp length-map c.requires.few in
-    let fits = no_overflow g.B.RuleBook.sets g.P.Policy.choice (proper g) g.met.P.Policy.chooses (g.B.RuleBook.rules book) (g.met.B.RuleBook.few book) (g.met.B.RuleBook.lawful book) (g.P.Policy.waiting c.args.policy.now) (map g.Kind.Window.stands rows) c.loop-rule.steps (g.P.Policy.waiting c.loop-rule.policy) (map g.Kind.Window.stands c.loop-rule.rows) c.in-Some.rule c.requires.windows few (at_most_64 (g.P.Policy.waiting c.args.policy.now) (g.met.P.Policy.distinct c.args.policy.now)) c.loop-rule.invariant (ap (λ (t : Taken). t.answer) c.in-Some.ensures) in
+    let fits = no_overflow g.B.RuleBook.sets g.P.Policy.choice (proper g) g.met.P.Policy.chooses (g.B.RuleBook.rules book) (g.met.B.RuleBook.few book) (g.met.B.RuleBook.lawful book) (g.P.Policy.waiting c.args.policy.now) (map g.Kind.Window.stands rows) c.loop-rule.steps (g.P.Policy.waiting c.loop-rule.policy) (map g.Kind.Window.stands c.loop-rule.rows) c.in-Some.rule c.requires.windows few (at_most_64 (g.P.Policy.waiting c.args.policy.now) (g.met.P.Policy.all_distinct c.args.policy.now)) c.loop-rule.invariant (ap (λ (t : Taken). t.answer) c.in-Some.ensures) in
     omega arith
 
 -- the turn after a narrowing that emptied nothing

@@ -13,15 +13,15 @@ bounds-self-n c =
     let l = room_for_one c.args.i (take q.len q.rules) q.apart c.if-i-ge64.false (sym c.if-has.ensures) in
     omega arith
 
-pub invariant-of-self : goal.invariant-of-self
-invariant-of-self c =
+pub invariant_of-self : goal.invariant_of-self
+invariant_of-self c =
     let q = c.args.self.now in
     let w = take q.len q.rules in
     let long : length q.rules ≡ 64 = search rules in
     let fits = q.fits in
     let n : length w ≡ q.len = length-take-le q.len q.rules (omega arith) in
     let l = room_for_one c.args.i w q.apart c.if-i-ge64.false (sym c.if-has.ensures) in
-    (omega arith, (ap distinct (take_more_set q.rules q.len c.args.i (omega arith) ∙ sym (put_absent c.args.i w c.if-i-ge64.false (sym c.if-has.ensures))) ∙ distinct_put c.args.i w q.apart, tt))
+    record { fits = omega arith; apart = ap distinct (take_more_set q.rules q.len c.args.i (omega arith) ∙ sym (put_absent c.args.i w c.if-i-ge64.false (sym c.if-has.ensures))) ∙ distinct_put c.args.i w q.apart }
 
 pub returns : goal.returns
 returns c =
