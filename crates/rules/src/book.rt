@@ -1,11 +1,12 @@
 // A book as a list of at most 64 rules: every call that the trait of a rulebook asks for, proved once for all types of rule.
-ghost use Rattle.std.specs.Prelude.{◌≡◌, ◌≤◌, [], map, length, get_or, take, slice_index_or};
+ghost use Rattle.std.specs.Prelude.{◌≡◌, ◌≤◌, ⊤, [], map, length, get_or, take, slice_index_or};
 ghost use Rattle.rulebook.specs.Rules.{missing};
 ghost use Rattle.rulebook.specs.Answers.{outcome, Tells, RowsKept, posted, any, reads_at, reach_of};
 ghost use Rattle.rules.specs.Books.{slot_rule, slot_rules, book_refuses};
 
 use crate::rule::BookRule;
 use rulebook::{BookRefusal, Narrowing, WindowSet};
+use std::alloc::AllocError;
 use windows::Window;
 
 // A book holds at most so many rules.
@@ -20,6 +21,17 @@ pub struct Book<R> {
 }
 
 impl<R: Copy> Copy for Book<R> {}
+
+// A copy of a book is the book itself, and is made without an allocation.
+impl<R: Copy> Clone for Book<R> {
+    ghost is_clone = { λ b c. c ≡ b };
+
+    ghost is_infallible = { λ _. ⊤ };
+
+    fn clone(&self) -> Result<Book<R>, AllocError> {
+        Ok(*self)
+    }
+}
 
 impl<R: BookRule> Book<R> {
     // A book with no rule.

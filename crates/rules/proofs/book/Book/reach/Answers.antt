@@ -3,12 +3,12 @@ use Rattle.rulebook.specs.Answers.{reach_of}
 use Rattle.rules.specs.Books.{slot_rules}
 use Rattle.rules.proofs.BookLaws.{reach_more, reach_kept}
 use Rattle.rules.proofs.book.Book.reach.Goals as goal
-use Rattle.rules.proofs.book.Book.reach.Goals.{then-some-reads, else-some-reads}
+use Rattle.rules.proofs.book.Book.reach.Goals.{then-some_reads, else-some_reads}
 
 pub loop-j-preserved : goal.loop-j-preserved
 loop-j-preserved g c =
     let rules = slot_rules g.R.BookRule.rule c.args.self.now.slots c.args.self.now.len in
-    elim c.if-some-reads.branch [ then-some-reads w ↦ w.reach-is ∙ reach_more rules c.loop-j.j c.loop-j.reach c.loop-j.invariant (sym c.some-reads.ensures ∙ w.if-some-reads.true) | else-some-reads w ↦ w.reach-is ∙ reach_kept rules c.loop-j.j c.loop-j.reach c.loop-j.invariant (sym c.some-reads.ensures ∙ w.if-some-reads.false) ]
+    elim c.if-some_reads.branch [ then-some_reads w ↦ w.reach-is ∙ reach_more rules c.loop-j.j c.loop-j.reach c.loop-j.invariant (sym c.some_reads.ensures ∙ w.if-some_reads.true) | else-some_reads w ↦ w.reach-is ∙ reach_kept rules c.loop-j.j c.loop-j.reach c.loop-j.invariant (sym c.some_reads.ensures ∙ w.if-some_reads.false) ]
 
 pub returns : goal.returns
 returns g c =

@@ -5,10 +5,10 @@ use Rattle.rules.proofs.WritingLaws.{push_kept, push_yes, push_full, push_past, 
 use Rattle.rules.proofs.new_windows.NewWindows.push.Goals as goal
 use Rattle.rules.proofs.new_windows.NewWindows.push.Goals.{else-self-lt-MOST-via-then-self-lt-MOST+then-at-lt64+else-not-has, else-self-lt-MOST-via-then-self-lt-MOST+else-at-lt64, else-self-lt-MOST-via-else-self-lt-MOST}
 
-pub invariant-of-self : goal.invariant-of-self
-invariant-of-self g c =
+pub invariant_of-self : goal.invariant_of-self
+invariant_of-self g c =
     let k = push_kept g.W.Window.numbers c.args.self.now.items c.args.self.now.len (record { at = c.args.at; new = c.args.new }) (omega arith) c.args.self.now.close c.args.self.now.apart c.if-at-lt64.true (sym c.if-not-has.ensures) in
-    (length-set c.args.self.now.items c.args.self.now.len (record { at = c.args.at; new = c.args.new }) ∙ c.args.self.now.whole, (omega arith, (k.0, (k.1, tt))))
+    record { whole = length-set c.args.self.now.items c.args.self.now.len (record { at = c.args.at; new = c.args.new }) ∙ c.args.self.now.whole; few = omega arith; close = k.0; apart = k.1 }
 
 pub returns-then-not-has : goal.returns-then-not-has
 returns-then-not-has g c = push_yes g.W.Window.numbers c.args.self.now.items c.args.self.now.len (record { at = c.args.at; new = c.args.new }) (omega arith) (omega arith) c.if-at-lt64.true (sym c.if-not-has.ensures)
