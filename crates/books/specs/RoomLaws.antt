@@ -2,7 +2,7 @@
 use Rattle.std.specs.Prelude.{◌≡◌, ℕ, ◌<◌, true, None}
 use Rattle.windows.specs.Kinds.{Of}
 use Rattle.sets.specs.Masks.{parts}
-use Rattle.sets.proofs.MaskLaws.{parts_proper}
+use Rattle.sets.specs.MaskLaws.{parts_proper}
 use Rattle.rulebook.specs.Rules.{Lawful}
 use Rattle.pairs.proofs.PairLaws.{same_lawful, differ_lawful, pair_within, pair_near}
 use Rattle.steps.proofs.StepLaws.{step_lawful, step_within}

@@ -1,7 +1,7 @@
 -- The laws of the rules on two windows, for every kind, and the new windows that the code writes.
 use Rattle.std.proofs.Common.{◌≡◌, ℕ, suc, ◌<◌, ◌≤◌, min, max, Bool, true, false, not, ◌&&◌, ◌||◌, eqb, ltb, ◌⊎◌, List, [], ◌∷◌, length, ℤ, None, sym, refl, ap, ◌∙◌, subst, ap₂, inl, inr, arith}
 use Rattle.std.proofs.lemmas.Bool.Decides.{nat_tests, eqb_tells}
-use Rattle.windows.specs.Sets.{eq_z, has, In, Within, Rising, meet}
+use Rattle.windows.specs.Sets.{eq_z, In, Within, Rising, meet}
 use Rattle.windows.specs.Kinds.{Kind, Of, Proper}
 use Rattle.windows.specs.SetLaws.{tests, never, in_cons, in_here, within_both}
 use Rattle.windows.proofs.KindLaws.{in_meet, meet_in, meet_of, but_within, but_kind, but_mono, but_keeps}

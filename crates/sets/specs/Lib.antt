@@ -1,1 +1,3 @@
 pub mod Masks
+pub mod BitLaws
+pub mod MaskLaws

@@ -3,7 +3,7 @@ ghost use Rattle.std.specs.Prelude.{◌≡◌, ◌^◌, ◌<◌, [], MatchOption
 ghost use Rattle.windows.specs.Sets.{sole_of};
 ghost use Rattle.windows.specs.Kinds.{all_but};
 ghost use Rattle.sets.specs.Masks.{mask_numbers, set_numbers, parts};
-ghost use Rattle.std.proofs.Common.{rules, arith};
+ghost use Rattle.sets.specs.MaskLaws.{parts_proper, parts_of, row_of, row_faithful};
 
 use windows::Window;
 
@@ -62,13 +62,13 @@ impl Window for Set {
 
     ghost stands = { λ row. set_numbers row };
 
-    ghost proper = { first_of (Prim.search rules, Prim.grind (arith, Self.row.coded.inj)) };
+    ghost proper = { parts_proper };
 
-    ghost kinds = { first_of (Prim.search rules, Prim.grind (arith, Self.row.coded.inj)) };
+    ghost kinds = { λ w. parts_of w.mask w.some.0 w.some.1 };
 
-    ghost rows = { first_of (Prim.search rules, Prim.grind (arith, Self.row.coded.inj)) };
+    ghost rows = { row_of };
 
-    ghost faithful = { first_of (Prim.search rules, Prim.grind (arith, Self.row.coded.inj)) };
+    ghost faithful = { row_faithful };
 
     fn from_row(row: SetRow) -> Option<Set> {
         Set::from_mask(row.mask)

@@ -9,8 +9,8 @@ use Rattle.windows.specs.SetLaws.{between_is, kept_same}
 use Rattle.sets.specs.Masks.{mask_numbers, set_numbers}
 use Rattle.sets.specs.declared.set.Set.{Set}
 use Rattle.sets.specs.declared.set.SetRow.{SetRow}
-use Rattle.sets.proofs.BitLaws.{bit, bit_mod, bit_down, bit_up, bit_under}
-use Rattle.sets.proofs.MaskLaws.{mask_in, has_bit, meet_mask, row_fits}
+use Rattle.sets.specs.BitLaws.{bit, bit_mod, bit_down, bit_up, bit_under}
+use Rattle.sets.specs.MaskLaws.{mask_in, has_bit, meet_mask, row_fits}
 use Rattle.rules.specs.Writing.{numbers_of}
 use Rattle.rules.proofs.WritingLaws.{numbers_is}
 use Rattle.rules.proofs.PointwiseLaws.{le_or_lt}

@@ -4,20 +4,20 @@ use Rattle.rules.proofs.WritingLaws.{numbers_is}
 use Rattle.pairs.proofs.PairLaws.{entries_none, two_made, list_written}
 use Rattle.pairs.proofs.pair.same_at.Goals as goal
 
-pub returns-in-default : goal.returns-in-default
-returns-in-default g c =
+pub returns-in_default : goal.returns-in_default
+returns-in_default g c =
     let T = map g.W.Window.stands c.args.rows.now in
     let p = c.args.p in
     let q = c.args.q in
-    let e = c.new.ensures ∙ entries_none (λ s t. meet s t) (λ s t. meet s t) p q T (inl c.in-default.ensures) in
+    let e = c.new.ensures ∙ entries_none (λ s t. meet s t) (λ s t. meet s t) p q T (inl c.in_default.ensures) in
     record { equation = e; outcome = list_written (λ s t. meet s t) (λ s t. meet s t) (λ v w. eq_z v w) p q T _ c.requires.2 e }
 
-pub returns-in-default-window-at : goal.returns-in-default-window-at
-returns-in-default-window-at g c =
+pub returns-in_default-window_at : goal.returns-in_default-window_at
+returns-in_default-window_at g c =
     let T = map g.W.Window.stands c.args.rows.now in
     let p = c.args.p in
     let q = c.args.q in
-    let e = c.new-in-default-window-at.ensures ∙ entries_none (λ s t. meet s t) (λ s t. meet s t) p q T (inr c.in-default-window-at.ensures) in
+    let e = c.new-in_default-window_at.ensures ∙ entries_none (λ s t. meet s t) (λ s t. meet s t) p q T (inr c.in_default-window_at.ensures) in
     record { equation = e; outcome = list_written (λ s t. meet s t) (λ s t. meet s t) (λ v w. eq_z v w) p q T _ c.requires.2 e }
 
 pub returns : goal.returns
@@ -26,5 +26,5 @@ returns g c =
     let p = c.args.p in
     let q = c.args.q in
     let some = λ (w : g.row.W.Denot). (g.met.W.Window.kinds w).some in
-    let e = c.both.ensures ∙ two_made (λ s t. meet s t) (λ s t. meet s t) p q T _ _ _ _ c.in-Some.ensures c.in-Some-window-at.ensures (some c.in-Some.first) (some c.in-Some-window-at.second) (numbers_is g.W.Window.numbers c.meet-shared.result _ c.meet-shared.ensures) (numbers_is g.W.Window.numbers c.meet-shared.result _ c.meet-shared.ensures) in
+    let e = c.both.ensures ∙ two_made (λ s t. meet s t) (λ s t. meet s t) p q T _ _ _ _ c.in-Some.ensures c.in-Some-window_at.ensures (some c.in-Some.first) (some c.in-Some-window_at.second) (numbers_is g.W.Window.numbers c.meet-shared.result _ c.meet-shared.ensures) (numbers_is g.W.Window.numbers c.meet-shared.result _ c.meet-shared.ensures) in
     record { equation = e; outcome = list_written (λ s t. meet s t) (λ s t. meet s t) (λ v w. eq_z v w) p q T _ c.requires.2 e }

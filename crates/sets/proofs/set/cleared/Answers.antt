@@ -1,6 +1,6 @@
 use Rattle.std.proofs.Common.{◌⊎◌, pos, ◌≤ℤ◌, ◌<ℤ◌, sym, inl, inr, arith, w32}
 use Rattle.std.proofs.lemmas.Int.{ints, to_z-of_z}
-use Rattle.sets.proofs.MaskLaws.{cleared_mask, all_but_outside}
+use Rattle.sets.specs.MaskLaws.{cleared_mask, all_but_outside}
 use Rattle.sets.proofs.set.cleared.Goals as goal
 use Rattle.sets.proofs.set.cleared.Goals.{else-v-ge0-via-then-v-ge0+else-v-lt64, else-v-ge0-via-else-v-ge0}
 

@@ -2,7 +2,7 @@ use Rattle.std.proofs.Common.{◌-◌, ◌^◌, ◌<◌, Some, sym, refl, ap, �
 use lib.Count.{count_leading_zeros}
 use Rattle.std.proofs.lemmas.Int.{to_z_pos}
 use Rattle.std.proofs.lemmas.Nat.{one_shl}
-use Rattle.sets.proofs.MaskLaws.{sole_top_one, sole_top_more}
+use Rattle.sets.specs.MaskLaws.{sole_top_one, sole_top_more}
 use Rattle.sets.proofs.set.only.Goals as goal
 
 pub returns-then-mask-top : goal.returns-then-mask-top

@@ -1,6 +1,6 @@
 use Rattle.std.proofs.Common.{◌≡◌, ap, ◌∙◌, arith}
 use Rattle.sets.specs.Masks.{mask_numbers}
-use Rattle.sets.proofs.MaskLaws.{none_mask}
+use Rattle.sets.specs.MaskLaws.{none_mask}
 use Rattle.sets.proofs.set.Set.from_mask.Goals as goal
 
 pub returns-else-mask-gt0 : goal.returns-else-mask-gt0

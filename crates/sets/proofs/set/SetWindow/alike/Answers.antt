@@ -1,4 +1,4 @@
-use Rattle.sets.proofs.MaskLaws.{alike_mask}
+use Rattle.sets.specs.MaskLaws.{alike_mask}
 use Rattle.sets.proofs.set.SetWindow.alike.Goals as goal
 
 pub returns : goal.returns

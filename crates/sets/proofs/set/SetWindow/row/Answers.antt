@@ -1,4 +1,4 @@
-use Rattle.sets.proofs.MaskLaws.{row_is}
+use Rattle.sets.specs.MaskLaws.{row_is}
 use Rattle.sets.proofs.set.SetWindow.row.Goals as goal
 
 pub returns : goal.returns

@@ -1,5 +1,5 @@
 use Rattle.std.proofs.Common.{sym}
-use Rattle.sets.proofs.MaskLaws.{size_mask}
+use Rattle.sets.specs.MaskLaws.{size_mask}
 use Rattle.sets.proofs.set.SetWindow.size.Goals as goal
 
 pub returns : goal.returns

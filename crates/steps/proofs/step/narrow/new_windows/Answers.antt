@@ -1,7 +1,7 @@
 use Rattle.std.proofs.Common.{map, inl, inr, w32}
 use Rattle.std.proofs.lemmas.Int.{to_z-of_z}
 use Rattle.sets.specs.Masks.{mask_numbers, set_numbers}
-use Rattle.sets.proofs.MaskLaws.{some_mask}
+use Rattle.sets.specs.MaskLaws.{some_mask}
 use Rattle.steps.proofs.StepLaws.{none_written, both_written}
 use Rattle.steps.proofs.Moves.{turned}
 use Rattle.steps.proofs.step.narrow.new_windows.Goals as goal

@@ -1,5 +1,5 @@
 -- The set kind: what its windows are, and what its calls give.
-use Rattle.std.proofs.Common.{◌≡◌, ℕ, zero, suc, ◌+◌, ◌-◌, ◌*◌, ◌/◌, ◌%◌, ◌^◌, ◌<◌, ◌≤◌, Bool, true, false, cond, not, ◌&&◌, eqb, ◌⊎◌, List, [], ◌∷◌, length, ℤ, pos, negsuc, nat_abs, ◌≤ℤ◌, ◌<ℤ◌, Some, None, filter, Option, sym, refl, ap, ◌∙◌, subst, ap₂, inl, inr, pow-suc, arith, pow_mono, MatchOption}
+use Rattle.std.proofs.Common.{◌≡◌, ℕ, zero, suc, ◌+◌, ◌-◌, ◌*◌, ◌/◌, ◌%◌, ◌^◌, ◌<◌, ◌≤◌, Bool, true, false, cond, not, ◌&&◌, eqb, ◌⊎◌, List, [], ◌∷◌, length, ℤ, pos, negsuc, nat_abs, ◌≤ℤ◌, ◌<ℤ◌, Some, None, filter, sym, refl, ap, ◌∙◌, subst, ap₂, inl, inr, pow-suc, arith, pow_mono}
 use lib.Bits.{bit_and}
 use lib.Count.{ones, ones_step, count_leading_zeros}
 use lib.Signed.{le_z, lt_z}
@@ -8,14 +8,13 @@ use Rattle.std.proofs.lemmas.Nat.{shr-shr, pow_below, leading_top, one_shl}
 use Rattle.std.proofs.lemmas.Bool.{cases_order}
 use Rattle.std.proofs.lemmas.Bool.Decides.{nat_tests}
 use Rattle.windows.specs.Sets.{eq_z, has, In, Rising, up_from, count, range, between, meet, remove, sole_of, same_set}
-use Rattle.windows.specs.Kinds.{Of, Proper, Smallest, all_but}
+use Rattle.windows.specs.Kinds.{Of, Proper, all_but}
 use Rattle.windows.specs.SetLaws.{tests, never, bool_same, in_here, rising_same, has_kept, has_range, rising_range, rising_kept, within_kept, has_meet, has_remove}
-use Rattle.windows.proofs.KindLaws.{meet_in, rising_meet, remove_in, rising_remove, smallest_from, but_none}
+use Rattle.windows.proofs.KindLaws.{meet_in, rising_meet, remove_in, rising_remove}
 use Rattle.windows.specs.SpanLaws.{range_in, same_set_is, same_set_self}
 use Rattle.sets.specs.Masks.{bit_set, mask_numbers, set_stands, set_numbers, parts}
 use Rattle.sets.specs.declared.set.SetRow.{SetRow}
-use Rattle.sets.specs.declared.set.Set.{Set}
-use Rattle.sets.proofs.BitLaws.{bit, bit_none, bits_same, bit_pow, bit_of_and, bit_not}
+use Rattle.sets.specs.BitLaws.{bit, bit_none, bits_same, bit_pow, bit_of_and, bit_not}
 
 pub parts_proper : Proper parts
 parts_proper = record { holds = λ s v i. i; mono = λ s t w. w; again = λ s. refl; rising = λ s r. r; none = refl; from = omega (arith, ints); to = omega (arith, ints) }
@@ -152,14 +151,6 @@ cleared_mask m (pos k) v e l h =
     let i : k < 64 = omega (arith, ints) in
     ap (λ x. mask_numbers (bit_and m (2 ^ 64 - 1 - x))) (one_shl k 64 i) ∙ sym (all_but_mask m k i) ∙ ap (all_but parts (mask_numbers m)) e
 cleared_mask m (negsuc k) v e l h = absurd (omega (arith, ints))
-
-pub set_smallest : (o : Option Set) (s : List ℤ) (v : ℤ) → Of parts s → MatchOption o (all_but parts s v ≡ []) (λ w. mask_numbers w.mask ≡ all_but parts s v) → MatchOption o (remove v s ≡ []) (λ w. Smallest parts (remove v s) (mask_numbers w.mask))
-set_smallest None s v o e = but_none parts parts_proper s v e
-set_smallest (Some w) s v o e = smallest_from parts parts_proper s _ v o (some_mask w.mask w.some.0 w.some.1) e
-
--- a window made of a mask, as what its numbers are
-pub made_of : (m : ℕ) (s : List ℤ) (r : Option Set) → mask_numbers m ≡ s → MatchOption r (mask_numbers m ≡ []) (λ w. mask_numbers w.mask ≡ mask_numbers m) → MatchOption r (s ≡ []) (λ w. mask_numbers w.mask ≡ s)
-made_of m s r e c = subst (λ u. MatchOption r (u ≡ []) (λ w. mask_numbers w.mask ≡ u)) e c
 
 -- ---- the only number
 one_mask : (k : ℕ) → k < 64 → mask_numbers (2 ^ k) ≡ pos k ∷ []
