@@ -5,7 +5,7 @@ use Rattle.std.specs.List.{range_with_len, AllByRecursion as All}
 use Rattle.std.proofs.lemmas.List.FromFn.{get_or-map-range_with_len}
 use Rattle.std.proofs.lemmas.Int.{ints}
 use Rattle.std.proofs.lemmas.Bool.Decides.{eqb_tells}
-use Rattle.windows.specs.Sets.{has, In, least_by, greatest_by}
+use Rattle.windows.specs.Sets.{In, least_by, greatest_by}
 use Rattle.windows.specs.SetLaws.{tests, never, in_kept, within_kept, kept_passes, least_bounds, greatest_bounds, least_reached, greatest_reached}
 use Rattle.rulebook.specs.Tables.{Table, Placing, window, place, filled, all_filled}
 use Rattle.rulebook.specs.Rules.{Means, Outcome, narrowed, emptied}

@@ -1,5 +1,5 @@
 -- How large the numbers are that the code of sums computes with.
-use Rattle.std.specs.Prelude.{◌≡◌, ℕ, ℤ, pos, negsuc, neg_ℤ, ◌≤ℤ◌, ◌≢◌}
+use Rattle.std.specs.Prelude.{ℕ, ℤ, pos, negsuc, neg_ℤ, ◌≤ℤ◌, ◌≢◌}
 
 -- a weight that a term may have
 abbrev pub Weighs : ℤ → Type 0

@@ -7,5 +7,5 @@ pub returns : goal.returns
 returns c =
     let s = c.args.self.now in
     let T = map span_numbers c.args.rows.now in
-    let e = c.narrow-terms.ensures.equation in
-    record { equation = search rules; rows = c.narrow-terms.ensures.rows; keeps = narrow_keeps s T _ _ (search rules); reached = sum_reached s }
+    let e = c.narrow_terms.ensures.equation in
+    record { equation = search rules; rows = c.narrow_terms.ensures.rows; keeps = narrow_keeps s T _ _ (search rules); reached = sum_reached s }

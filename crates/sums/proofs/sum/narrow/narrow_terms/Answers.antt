@@ -10,7 +10,7 @@ pub returns-in-Some : goal.returns-in-Some
 returns-in-Some c =
     let ts = c.args.terms.now in
     let T = map span_numbers c.args.rows.now in
-    let e = c.new-windows.ensures ∙ ap (λ b. entries (sum_new ts b c.args.exact T) ts) (to_z-of_z w32 c.args.bound c.ranges.bound) in
+    let e = c.new_windows.ensures ∙ ap (λ b. entries (sum_new ts b c.args.exact T) ts) (to_z-of_z w32 c.args.bound c.ranges.bound) in
     record { equation = tells_some ts c.args.bound c.args.exact T _ _ _ c.in-Some.ensures.0 e c.write.ensures.equation; rows = c.write.ensures.rows }
 
 pub returns-in-None : goal.returns-in-None

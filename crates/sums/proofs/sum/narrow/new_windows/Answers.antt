@@ -8,10 +8,10 @@ use Rattle.sums.specs.Steps.{entries, new_entries}
 use Rattle.sums.proofs.QuestionLaws.{bound_is}
 use Rattle.sums.proofs.SumSteps.{weight_fits, term_weighs, read_at, row_new, numbers_window, entries_more}
 use Rattle.sums.proofs.sum.narrow.new_windows.Goals as goal
-use Rattle.sums.proofs.sum.narrow.new_windows.Goals.{in-Some, in-default}
+use Rattle.sums.proofs.sum.narrow.new_windows.Goals.{in-Some, in_default}
 
-pub new-window-requires : goal.new-window-requires
-new-window-requires c =
+pub new_window-requires : goal.new_window-requires
+new_window-requires c =
     let w = term_weighs c.args.terms.now c.loop-term.term-index c.loop-term-test.true c.requires.0.weights in
     let fw = weight_fits _ w in
     let fb = c.ranges.bound in
@@ -32,14 +32,14 @@ loop-term-preserved c =
     let fb = c.ranges.bound in
     let fl : SFits w64 c.args.sums.least = search rules in
     let fg : SFits w64 c.args.sums.greatest = search rules in
-    elim c.match-row-at.branch [
+    elim c.match-row_at.branch [
       | in-Some w ↦
           let r = w.in-Some.ensures in
           let kl = fits_lo _ _ r.0 in
           let kh = fits_hi _ _ r.0 in
-          let new = numbers_window _ w.new-window.result (simp to_z-of_z at w.new-window.ensures) ∙ row_new ts b exact T i _ _ _ _ h fit.different sums.1 sums.2 (sym r.1) in
+          let new = numbers_window _ w.new_window.result (simp to_z-of_z at w.new_window.ensures) ∙ row_new ts b exact T i _ _ _ _ h fit.different sums.1 sums.2 (sym r.1) in
           simp to_z-of_z (ap new_entries w.new-is ∙ entries_more (sum_new ts b exact T) ts i _ _ _ fit h (simp to_z-of_z at c.loop-term.invariant) new w.push.ensures)
-      | in-default w ↦ absurd (read_at T ts i h sums.0 w.in-default.ensures)
+      | in_default w ↦ absurd (read_at T ts i h sums.0 w.in_default.ensures)
     ]
 
 pub returns : goal.returns
