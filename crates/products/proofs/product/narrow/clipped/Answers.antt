@@ -36,4 +36,4 @@ returns c =
     let k1 = k.1 in
     let e = clipped_ends c.args.row.lo c.args.row.hi c.max-lo.result c.min-hi.result c.args.ends.from c.args.ends.to c.requires l h t in
     let row : SpanRow = record { lo = to_z w32 (of_z w32 (to_z w64 (of_z w64 c.max-lo.result))); hi = to_z w32 (of_z w32 (to_z w64 (of_z w64 c.min-hi.result))) } in
-    window_from row _ c.from-row.result (simp to_z-of_z e.0) (simp to_z-of_z e.1) c.from-row.ensures
+    window_from row _ c.from_row.result (simp to_z-of_z e.0) (simp to_z-of_z e.1) c.from_row.ensures

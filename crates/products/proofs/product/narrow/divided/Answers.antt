@@ -18,4 +18,4 @@ returns c =
     let vh : SFits w64 c.args.u.hi = widen uh in
     let wl : SFits w64 c.args.t.lo = widen tl in
     let wh : SFits w64 c.args.t.hi = widen th in
-    divided_is c.args.s.lo c.args.s.hi c.args.u.lo c.args.u.hi c.args.t.lo c.args.t.hi _ _ c.clipped.result s u.0 t.0 (simp to_z-of_z at c.weak-quotients-quotients.ensures) c.clipped.ensures
+    divided_is c.args.s.lo c.args.s.hi c.args.u.lo c.args.u.hi c.args.t.lo c.args.t.hi _ _ c.clipped.result s u.0 t.0 (simp to_z-of_z at c.weak_quotients-quotients.ensures) c.clipped.ensures

@@ -12,8 +12,8 @@ above d p e h = omega (arith, ints)
 below : (d : ℤ) → d ≤ℤ negsuc 0 → d <ℤ pos 0
 below d h = omega (arith, ints)
 
-pub between-quotients-requires : goal.between-quotients-requires
-between-quotients-requires c =
+pub between_quotients-requires : goal.between_quotients-requires
+between_quotients-requires c =
     let fa = c.ranges.a in
     let fb = c.ranges.b in
     let fc = c.ranges.c in
@@ -42,6 +42,6 @@ returns c v =
     let a = simp to_z-of_z at c.negated-2.ensures.value in
     let d = simp to_z-of_z at c.negated-3.ensures.value in
     let e = simp to_z-of_z at c.negated-4.ensures.value in
-    let q = simp to_z-of_z at (c.between-quotients.ensures v) in
+    let q = simp to_z-of_z at (c.between_quotients.ensures v) in
     let t = among_left c.args.a c.args.b c.args.c c.args.d v (below _ c.requires.1.1.1.0) (below _ c.requires.1.1.1.1) c.requires.0.1.1 in
     t ∙ same_quotients _ _ _ _ _ _ _ _ v (sym b) (sym a) (sym d) (sym e) ∙ q

@@ -40,12 +40,12 @@ returns c =
     let fx = fits _ c.times-x.ensures.bound in
     let fy = fits _ c.times-y.ensures.bound in
     let fz = fits _ c.times-z.ensures.bound in
-    let fl : SFits w64 c.least-of.result = search rules in
-    let fg : SFits w64 c.greatest-of.result = search rules in
+    let fl : SFits w64 c.least_of.result = search rules in
+    let fg : SFits w64 c.greatest_of.result = search rules in
     let w = simp to_z-of_z at c.times-w.ensures.value in
     let x = simp to_z-of_z at c.times-x.ensures.value in
     let y = simp to_z-of_z at c.times-y.ensures.value in
     let z = simp to_z-of_z at c.times-z.ensures.value in
-    let l = simp to_z-of_z at c.least-of.ensures in
-    let g = simp to_z-of_z at c.greatest-of.ensures in
+    let l = simp to_z-of_z at c.least_of.ensures in
+    let g = simp to_z-of_z at c.greatest_of.ensures in
     record { least = simp to_z-of_z (joined_least _ _ _ _ _ _ _ _ _ s.0 t.0 w x y z l); greatest = simp to_z-of_z (joined_greatest _ _ _ _ _ _ _ _ _ s.0 t.0 w x y z g) }

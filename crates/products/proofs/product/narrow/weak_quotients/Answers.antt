@@ -20,27 +20,27 @@ negative c t = omega (arith, ints)
 turned : (lo hi e : ℤ) → Stands lo hi → e ≡ int_max (pos (nat_abs lo)) (pos (nat_abs hi)) → SFits w64 (pos 0 -ℤ e)
 turned lo hi e s q = omega (arith, ints, clamps)
 
-pub returns-then-zero-in-both : goal.returns-then-zero-in-both
-returns-then-zero-in-both c v l h =
+pub returns-then-zero_in_both : goal.returns-then-zero_in_both
+returns-then-zero_in_both c v l h =
     let fa = c.ranges.a in
     let fb = c.ranges.b in
     let fc = c.ranges.c in
     let fd = c.ranges.d in
-    weak_free c.args.a c.args.b c.args.c c.args.d v (simp to_z-of_z at c.if-zero-in-both.ensures) l h
+    weak_free c.args.a c.args.b c.args.c c.args.d v (simp to_z-of_z at c.if-zero_in_both.ensures) l h
 
-pub returns-then-around-zero : goal.returns-then-around-zero
-returns-then-around-zero c v l h =
+pub returns-then-around_zero : goal.returns-then-around_zero
+returns-then-around_zero c v l h =
     let fa = c.ranges.a in
     let fb = c.ranges.b in
     let fc = c.ranges.c in
     let fd = c.ranges.d in
     let g1 : SFits w64 c.abs.result = search rules in
-    let g2 : SFits w64 c.abs-then-around-zero.result = search rules in
+    let g2 : SFits w64 c.abs-then-around_zero.result = search rules in
     let ge : SFits w64 c.max-e.result = search rules in
-    let n = simp to_z-of_z at c.if-zero-in-both.ensures in
-    let w = simp to_z-of_z at c.if-around-zero.ensures in
+    let n = simp to_z-of_z at c.if-zero_in_both.ensures in
+    let w = simp to_z-of_z at c.if-around_zero.ensures in
     let x = simp to_z-of_z at c.abs.ensures.value in
-    let y = simp to_z-of_z at c.abs-then-around-zero.ensures.value in
+    let y = simp to_z-of_z at c.abs-then-around_zero.ensures.value in
     let e = simp to_z-of_z at c.max-e.ensures.value in
     let q = e ∙ ap₂ int_max x y in
     let gn : SFits w64 (pos 0 -ℤ c.max-e.result) = turned c.args.a c.args.b c.max-e.result c.requires.0 q in
@@ -53,14 +53,14 @@ returns-then-d-gt0 c v l h =
     let fc = c.ranges.c in
     let fd = c.ranges.d in
     let gm : SFits w64 c.max.result = search rules in
-    let n = simp to_z-of_z at c.if-zero-in-both.ensures in
-    let w = simp to_z-of_z at c.if-around-zero.ensures in
+    let n = simp to_z-of_z at c.if-zero_in_both.ensures in
+    let w = simp to_z-of_z at c.if-around_zero.ensures in
     let m = simp to_z-of_z at c.max.ensures.value in
-    let q = simp to_z-of_z at (c.between-quotients.ensures v) in
+    let q = simp to_z-of_z at (c.between_quotients.ensures v) in
     weak_right c.args.a c.args.b c.args.c c.args.d v c.max.result c.requires.1.0 n w (omega (arith, ints, simp to_z-of_z at c.if-d-gt0.true)) m ∙ q
 
-pub left-quotients-requires : goal.left-quotients-requires
-left-quotients-requires c =
+pub left_quotients-requires : goal.left_quotients-requires
+left_quotients-requires c =
     let fa = c.ranges.a in
     let fb = c.ranges.b in
     let fc = c.ranges.c in
@@ -77,9 +77,9 @@ returns-then-c-lt0 c v l h =
     let fc = c.ranges.c in
     let fd = c.ranges.d in
     let gm : SFits w64 c.min.result = search rules in
-    let n = simp to_z-of_z at c.if-zero-in-both.ensures in
+    let n = simp to_z-of_z at c.if-zero_in_both.ensures in
     let m = simp to_z-of_z at c.min.ensures.value in
-    let q = simp to_z-of_z at (c.left-quotients.ensures v) in
+    let q = simp to_z-of_z at (c.left_quotients.ensures v) in
     weak_left c.args.a c.args.b c.args.c c.args.d v c.min.result c.requires.1.0 n (omega (arith, ints, simp to_z-of_z at c.if-c-lt0.true)) (omega (arith, ints, simp to_z-of_z at c.if-d-gt0.false)) m ∙ q
 
 pub returns : goal.returns
@@ -88,4 +88,4 @@ returns c v l h =
     let fb = c.ranges.b in
     let fc = c.ranges.c in
     let fd = c.ranges.d in
-    weak_none c.args.a c.args.b c.args.c c.args.d v c.requires.1.0 (simp to_z-of_z at c.if-zero-in-both.ensures) (omega (arith, ints, simp to_z-of_z at c.if-c-lt0.false)) (omega (arith, ints, simp to_z-of_z at c.if-d-gt0.false))
+    weak_none c.args.a c.args.b c.args.c c.args.d v c.requires.1.0 (simp to_z-of_z at c.if-zero_in_both.ensures) (omega (arith, ints, simp to_z-of_z at c.if-c-lt0.false)) (omega (arith, ints, simp to_z-of_z at c.if-d-gt0.false))

@@ -8,6 +8,6 @@ use Rattle.steps.proofs.step.Step.check.Goals as goal
 pub returns : goal.returns
 returns c =
     let f = c.ranges.k in
-    let a = c.in-ok-pair.ensures.equation in
+    let a = c.in_ok-pair.ensures.equation in
     let r : in_reach c.args.k ≡ true = grind (arith, ints, tests) in
     record { equation = (accepted c.args.p c.args.q c.args.k c.args.n a.0 r, a.1, a.2, to_z-of_z w32 c.args.k f); means = step_means _ _ _ }

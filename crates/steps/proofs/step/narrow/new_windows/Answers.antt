@@ -6,11 +6,11 @@ use Rattle.steps.proofs.StepLaws.{none_written, both_written}
 use Rattle.steps.proofs.Moves.{turned}
 use Rattle.steps.proofs.step.narrow.new_windows.Goals as goal
 
-pub returns-in-default : goal.returns-in-default
-returns-in-default c = none_written c.args.k c.args.pair.p c.args.pair.q (map set_numbers c.args.rows.now) _ c.args.pair.apart (inl c.in-default.ensures) c.new.ensures
+pub returns-in_default : goal.returns-in_default
+returns-in_default c = none_written c.args.k c.args.pair.p c.args.pair.q (map set_numbers c.args.rows.now) _ c.args.pair.apart (inl c.in_default.ensures) c.new.ensures
 
-pub returns-in-default-second : goal.returns-in-default-second
-returns-in-default-second c = none_written c.args.k c.args.pair.p c.args.pair.q (map set_numbers c.args.rows.now) _ c.args.pair.apart (inr c.in-default-second.ensures) c.new-in-default-second.ensures
+pub returns-in_default-second : goal.returns-in_default-second
+returns-in_default-second c = none_written c.args.k c.args.pair.p c.args.pair.q (map set_numbers c.args.rows.now) _ c.args.pair.apart (inr c.in_default-second.ensures) c.new-in_default-second.ensures
 
 pub returns : goal.returns
 returns c =
