@@ -107,8 +107,8 @@ fn between_quotients(a: i64, b: i64, c: i64, d: i64) -> Ends
 
 // The same for divisors below 0.
 fn left_quotients(a: i64, b: i64, c: i64, d: i64) -> Ends
-    requires small { (Small 1000000000000 a) × ((Small 1000000000000 b) × (a ≤ℤ b)) }
-    requires small_2 { (Small 1000000000000 c) × ((Small 1000000000000 d) × ((c ≤ℤ negsuc 0) × (d ≤ℤ negsuc 0))) }
+    requires dividend { (Small 1000000000000 a) × ((Small 1000000000000 b) × (a ≤ℤ b)) }
+    requires divisor { (Small 1000000000000 c) × ((Small 1000000000000 d) × ((c ≤ℤ negsuc 0) × (d ≤ℤ negsuc 0))) }
     ensures { (v : ℤ) → among_quotients a b c d v ≡ between result.from result.to v }
 {
     between_quotients(negated(b), negated(a), negated(d), negated(c))

@@ -26,7 +26,7 @@ between_quotients-requires c =
     let a = simp to_z-of_z at c.negated-2.ensures.value in
     let d = simp to_z-of_z at c.negated-3.ensures.value in
     let e = simp to_z-of_z at c.negated-4.ensures.value in
-    simp to_z-of_z (c.negated.ensures.bound, (c.negated-2.ensures.bound, (order _ _ _ _ b a c.requires.0.1.1, (above _ _ d c.requires.1.1.1.1, above _ _ e c.requires.1.1.1.0))))
+    simp to_z-of_z (c.negated.ensures.bound, (c.negated-2.ensures.bound, (order _ _ _ _ b a c.requires.dividend.1.1, (above _ _ d c.requires.divisor.1.1.1, above _ _ e c.requires.divisor.1.1.0))))
 
 pub returns : goal.returns
 returns c v =
@@ -43,5 +43,5 @@ returns c v =
     let d = simp to_z-of_z at c.negated-3.ensures.value in
     let e = simp to_z-of_z at c.negated-4.ensures.value in
     let q = simp to_z-of_z at (c.between_quotients.ensures v) in
-    let t = among_left c.args.a c.args.b c.args.c c.args.d v (below _ c.requires.1.1.1.0) (below _ c.requires.1.1.1.1) c.requires.0.1.1 in
+    let t = among_left c.args.a c.args.b c.args.c c.args.d v (below _ c.requires.divisor.1.1.0) (below _ c.requires.divisor.1.1.1) c.requires.dividend.1.1 in
     t ∙ same_quotients _ _ _ _ _ _ _ _ v (sym b) (sym a) (sym d) (sym e) ∙ q

@@ -68,7 +68,7 @@ left_quotients-requires c =
     let gm : SFits w64 c.min.result = search rules in
     let m = simp to_z-of_z at c.min.ensures.value in
     let t = simp to_z-of_z at c.if-c-lt0.true in
-    simp to_z-of_z (((wider _ _ c.requires.0).0, ((wider _ _ c.requires.0).1, c.requires.0.0)), ((wider _ _ c.requires.1).0, ((low _ _ _ c.requires.1 m).0, (negative _ t, (low _ _ _ c.requires.1 m).1))))
+    simp to_z-of_z (record { dividend = ((wider _ _ c.requires.0).0, ((wider _ _ c.requires.0).1, c.requires.0.0)); divisor = ((wider _ _ c.requires.1).0, ((low _ _ _ c.requires.1 m).0, (negative _ t, (low _ _ _ c.requires.1 m).1))) })
 
 pub returns-then-c-lt0 : goal.returns-then-c-lt0
 returns-then-c-lt0 c v l h =
