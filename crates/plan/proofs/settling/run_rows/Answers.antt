@@ -13,8 +13,8 @@ proper g = proper_sets g.Kind.Window.kind g.met.Kind.Window.proper g.B.RuleBook.
 pub loop-rule-init : goal.loop-rule-init
 loop-rule-init g c = started g.B.RuleBook.sets g.P.Policy.choice (g.B.RuleBook.rules c.args.book.now) (g.P.Policy.waiting c.args.policy.now) (map g.Kind.Window.stands c.args.rows.now) c.requires.windows
 
-pub overflow-add-steps : goal.overflow-add-steps
-overflow-add-steps g c =
+pub overflow_add-steps : goal.overflow_add-steps
+overflow_add-steps g c =
     let book = c.args.book.now in
     let rows = c.args.rows.now in
     let few : length (map g.Kind.Window.stands rows) ≤ 64 = simp length-map c.requires.few in
@@ -41,5 +41,5 @@ returns-in-Emptied g c =
 pub returns : goal.returns
 returns g c =
     let book = c.args.book.now in
-    let told = c.in-default.ensures in
+    let told = c.in_default.ensures in
     last_turn g.B.RuleBook.sets g.P.Policy.choice (proper g) g.met.P.Policy.chooses (g.B.RuleBook.rules book) (g.met.B.RuleBook.few book) (g.met.B.RuleBook.lawful book) (g.P.Policy.waiting c.args.policy.now) (map g.Kind.Window.stands c.args.rows.now) c.loop-rule.steps (g.P.Policy.waiting c.loop-rule.policy) (map g.Kind.Window.stands c.loop-rule.rows) (g.P.Policy.waiting c.take.new.self) c.loop-rule.invariant (ap (λ (t : Taken). t.answer) told) (sym (ap (λ (t : Taken). t.after) told))

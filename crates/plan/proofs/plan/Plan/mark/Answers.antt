@@ -35,7 +35,7 @@ returns-then-depth-ge16 g c =
     let long = copies_long g.Kind.Window.stands status.slots status.windows c.args.board.now.store.now 0 status.depth in
     let l : 16 ≤ length s.marks = omega (arith, long, c.if-depth-ge16.true) in
     record {
-      equation = call_refused (or_else board (mark_refusal s)) Marks s (record { answer = Ok (record { number = s.handed }); after = marking s }) (asked_next board (mark_refusal s) (Some Marks) c.in-default.ensures (too_many s l));
+      equation = call_refused (or_else board (mark_refusal s)) Marks s (record { answer = Ok (record { number = s.handed }); after = marking s }) (asked_next board (mark_refusal s) (Some Marks) c.in_default.ensures (too_many s l));
       rows = refl;
       store = refl;
       lent = (refl, refl);
@@ -50,17 +50,17 @@ returns-then-number-ge1000000000 g c =
     let long = copies_long g.Kind.Window.stands status.slots status.windows c.args.board.now.store.now 0 status.depth in
     let l : length s.marks < 16 = omega (arith, long, c.if-depth-ge16.false) in
     record {
-      equation = call_refused (or_else board (mark_refusal s)) Handed s (record { answer = Ok (record { number = s.handed }); after = marking s }) (asked_next board (mark_refusal s) (Some Handed) c.in-default.ensures (all_handed s l c.if-number-ge1000000000.true));
+      equation = call_refused (or_else board (mark_refusal s)) Handed s (record { answer = Ok (record { number = s.handed }); after = marking s }) (asked_next board (mark_refusal s) (Some Handed) c.in_default.ensures (all_handed s l c.if-number-ge1000000000.true));
       rows = refl;
       store = refl;
       lent = (refl, refl);
       asked = refused_carries g.B.RuleBook.sets g.P.Policy.choice (proper_sets g.Kind.Window.kind g.met.Kind.Window.proper g.B.RuleBook.sets g.met.B.RuleBook.tied) g.met.P.Policy.chooses s;
     }
 
-pub overflow-mul-depth : goal.overflow-mul-depth
-overflow-mul-depth g c =
+pub overflow_mul-depth : goal.overflow_mul-depth
+overflow_mul-depth g c =
     let status = c.args.self.now.status in
-    let f = fine_rows g.Kind.Window.stands c.args.board.now.rows.now (length c.args.board.now.store.now) status.windows c.in-default.ensures in
+    let f = fine_rows g.Kind.Window.stands c.args.board.now.rows.now (length c.args.board.now.store.now) status.windows c.in_default.ensures in
     let few : status.windows ≤ 64 = omega (arith, f.0, f.1) in
     let h = small_place status.depth status.windows c.if-depth-ge16.false few in
     omega arith
@@ -69,7 +69,7 @@ pub save-requires : goal.save-requires
 save-requires g c =
     let status = c.args.self.now.status in
     let rows = c.args.board.now.rows.now in
-    let f = fine_rows g.Kind.Window.stands rows (length c.args.board.now.store.now) status.windows c.in-default.ensures in
+    let f = fine_rows g.Kind.Window.stands rows (length c.args.board.now.store.now) status.windows c.in_default.ensures in
     room_at status.depth status.windows (length c.args.board.now.store.now) (length rows) f.0 c.if-depth-ge16.false f.2
 
 pub returns : goal.returns
@@ -84,8 +84,8 @@ returns g c =
     let long : length s.marks ≡ status.depth = copies_long stands status.slots status.windows store 0 status.depth in
     let l : length s.marks < 16 = omega (arith, long, c.if-depth-ge16.false) in
     let o = or_else (refused (length store) s) (mark_refusal s) in
-    let none : o ≡ None = asked_next (refused (length store) s) (mark_refusal s) None c.in-default.ensures (may_mark s l c.if-number-ge1000000000.false) in
-    let f = fine_rows stands rows (length store) status.windows c.in-default.ensures in
+    let none : o ≡ None = asked_next (refused (length store) s) (mark_refusal s) None c.in_default.ensures (may_mark s l c.if-number-ge1000000000.false) in
+    let f = fine_rows stands rows (length store) status.windows c.in_default.ensures in
     let room = room_at status.depth status.windows (length store) (length rows) f.0 c.if-depth-ge16.false f.2 in
     let room' : status.depth * status.windows ≤ length store = omega arith in
     let marks = marked_copies stands status.slots c.push.new.self.slots store c.save.new.self.store.now rows status.depth c.push.new.self.depth status.windows c.push.new.self.windows (record { number = status.handed; count = c.count-count.result; impossible = status.impossible }) c.push.ensures.slots f.0 c.push.ensures.windows c.push.ensures.depth c.save.ensures.store room' in

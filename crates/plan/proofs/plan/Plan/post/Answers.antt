@@ -28,7 +28,7 @@ returns-in-Err g c =
     let r = g.B.RuleBook.meaning c.args.rule in
     let long = length c.args.board.now.store.now in
     let o = g.B.RuleBook.refuses c.args.self.now.book c.args.rule c.args.self.now.status.windows in
-    let equation = post_refused r o long s c.in-default.ensures (g.B.RuleBook.rules c.post.new.self) c.in-Err.refused c.in-Err.ensures in
+    let equation = post_refused r o long s c.in_default.ensures (g.B.RuleBook.rules c.post.new.self) c.in-Err.refused c.in-Err.ensures in
     record {
       equation = equation;
       asked = refused_calls g.B.RuleBook.sets g.P.Policy.choice (proper_sets g.Kind.Window.kind g.met.Kind.Window.proper g.B.RuleBook.sets g.met.B.RuleBook.tied) g.met.P.Policy.chooses (ask_posted r) s (or_else (refused long s) (by_book o)) (length s.rules) (posting r s) (Book c.in-Err.refused) _ equation;
@@ -43,7 +43,7 @@ returns-in-Ok g c =
     let rules = g.B.RuleBook.rules c.post.new.self in
     let t = posted_ok s.rules rules r o c.in-Ok.number c.in-Ok.ensures in
     let room = posted_room g.B.RuleBook.sets r s.rules rules (sym t.2) (g.met.B.RuleBook.few c.post.new.self) (g.met.B.RuleBook.lawful c.post.new.self) in
-    let equation = post_done r o long s c.in-default.ensures rules c.in-Ok.number (g.P.Policy.waiting c.put.new.self) c.in-Ok.ensures c.put.ensures in
+    let equation = post_done r o long s c.in_default.ensures rules c.in-Ok.number (g.P.Policy.waiting c.put.new.self) c.in-Ok.ensures c.put.ensures in
     record {
       equation = equation;
       asked = call_carries g.B.RuleBook.sets g.P.Policy.choice (proper_sets g.Kind.Window.kind g.met.Kind.Window.proper g.B.RuleBook.sets g.met.B.RuleBook.tied) g.met.P.Policy.chooses (ask_posted r) s (or_else (refused long s) (by_book o)) (length s.rules) (posting r s) (Ok c.in-Ok.number) _ (λ _ a h. posted r a s room.0 room.1 h) equation;

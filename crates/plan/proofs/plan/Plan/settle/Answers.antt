@@ -18,12 +18,12 @@ returns g c =
     let store = c.args.board.now.store.now in
     let rules = g.B.RuleBook.rules plan.book in
     let before : State = view stands rules (g.P.Policy.waiting plan.policy) plan.status rows store in
-    let after : State = view stands rules (g.P.Policy.waiting c.settle-rows.new.policy) c.settle-rows.new.status c.settle-rows.new.rows store in
-    let r = c.settle-rows.result in
-    let e = c.settle-rows.ensures.equation store in
+    let after : State = view stands rules (g.P.Policy.waiting c.settle_rows.new.policy) c.settle_rows.new.status c.settle_rows.new.rows store in
+    let r = c.settle_rows.result in
+    let e = c.settle_rows.ensures.equation store in
     record {
       equation = e;
-      rows = c.settle-rows.ensures.rows;
+      rows = c.settle_rows.ensures.rows;
       store = refl;
       lent = (refl, refl);
       asked = settle-carries sets choice proper chooses before (length store) r after e;
