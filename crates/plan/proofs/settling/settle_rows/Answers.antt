@@ -11,7 +11,7 @@ use Rattle.plan.proofs.settling.settle_rows.Goals as goal
 
 pub returns-in-Some : goal.returns-in-Some
 returns-in-Some g c =
-    let stands = g.Kind.Window.stands in
+    let stands = g.B.Kind.Window.stands in
     let status = c.args.status.now in
     let rows = c.args.rows.now in
     record {
@@ -21,7 +21,7 @@ returns-in-Some g c =
 
 pub returns-then-status : goal.returns-then-status
 returns-then-status g c =
-    let stands = g.Kind.Window.stands in
+    let stands = g.B.Kind.Window.stands in
     let status = c.args.status.now in
     let rows = c.args.rows.now in
     record {
@@ -31,12 +31,12 @@ returns-then-status g c =
 
 pub run_rows-verdict-requires : goal.run_rows-verdict-requires
 run_rows-verdict-requires g c =
-    let f = fine (map g.Kind.Window.stands c.args.rows.now) c.args.stored (eqb (length c.args.rows.now) c.args.status.now.windows) (sym c.in_default.ensures) in
-    record { few = simp length-map at f.few; windows = all_kinds g.Kind.Window.stands g.B.RuleBook.sets c.args.rows.now (λ row n. (g.met.B.RuleBook.tied (g.Kind.Window.stands row)).1 (g.met.Kind.Window.rows row n)) f.windows }
+    let f = fine (map g.B.Kind.Window.stands c.args.rows.now) c.args.stored (eqb (length c.args.rows.now) c.args.status.now.windows) (sym c.in_default.ensures) in
+    record { few = simp length-map at f.few; windows = all_kinds g.B.Kind.Window.stands g.B.RuleBook.sets c.args.rows.now (λ row n. (g.met.B.RuleBook.tied (g.B.Kind.Window.stands row)).1 (g.met.B.Kind.Window.rows row n)) f.windows }
 
 pub returns-in-Impossible : goal.returns-in-Impossible
 returns-in-Impossible g c =
-    let stands = g.Kind.Window.stands in
+    let stands = g.B.Kind.Window.stands in
     let status = c.args.status.now in
     let rows = c.args.rows.now in
     record {
@@ -46,7 +46,7 @@ returns-in-Impossible g c =
 
 pub returns-in_default-verdict : goal.returns-in_default-verdict
 returns-in_default-verdict g c =
-    let stands = g.Kind.Window.stands in
+    let stands = g.B.Kind.Window.stands in
     let status = c.args.status.now in
     let rows = c.args.rows.now in
     record {
