@@ -6,7 +6,6 @@ use Rattle.plan.specs.Refusals.{refused}
 use Rattle.plan.specs.Views.{view, copies}
 use Rattle.plan.proofs.BoardLaws.{fine, all_kinds, counted}
 use Rattle.plan.proofs.CallExits.{call_refused, settle_impossible, settle_ran}
-use Rattle.plan.proofs.settling.settle_rows.Given as given
 use Rattle.plan.proofs.settling.settle_rows.Goals as goal
 
 pub returns-in-Some : goal.returns-in-Some

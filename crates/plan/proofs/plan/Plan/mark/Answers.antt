@@ -12,7 +12,6 @@ use Rattle.plan.proofs.BoardLaws.{fine_rows}
 use Rattle.plan.proofs.MarkLaws.{copies_long, marked_copies, same_state, may_mark, too_many, all_handed, room_at, small_place}
 use Rattle.plan.proofs.CallExits.{asked_first, asked_next, call_refused, call_done}
 use Rattle.plan.proofs.Theorem.{refused_carries, call_carries}
-use Rattle.plan.proofs.plan.Plan.mark.Given as given
 use Rattle.plan.proofs.plan.Plan.mark.Goals as goal
 
 pub returns-in-Some : goal.returns-in-Some
