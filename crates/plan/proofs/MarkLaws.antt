@@ -4,7 +4,7 @@ use Rattle.std.proofs.lemmas.List.{length-take-le, length-drop, take-append-drop
 use Rattle.std.proofs.lemmas.Bool.{cond-true, cond-false, eq-eqb, ne_eqb, lt-ltb, le-ltb}
 use Rattle.rulebook.specs.Rules.{Rule}
 use Rattle.plan.specs.States.{State, Copy, state}
-use Rattle.plan.specs.Calls.{marking, is_open, with_marks, keeping_at, restored, taking_back_at}
+use Rattle.plan.specs.Calls.{is_open, with_marks, keeping_at, restored, taking_back_at}
 use Rattle.rulebook.specs.Tables.{Table}
 use Rattle.plan.specs.Refusals.{mark_refusal, open_refusal}
 use Rattle.plan.specs.Views.{no_slot, found, Pushed, copy_at, copies, stored}

@@ -1,5 +1,5 @@
 -- What the other calls do to a state, where they are not refused.
-use Rattle.std.specs.Prelude.{ℕ, suc, Bool, true, false, cond, List, [], ◌∷◌, ◌++◌, length, take, set, ℤ, ◌==◌, slice_set}
+use Rattle.std.specs.Prelude.{ℕ, suc, Bool, true, false, cond, List, [], ◌∷◌, ◌++◌, length, take, ℤ, ◌==◌, slice_set}
 use Rattle.windows.specs.Sets.{same_set, meet}
 use Rattle.rulebook.specs.Tables.{Table, window}
 use Rattle.rulebook.specs.Rules.{Rule}

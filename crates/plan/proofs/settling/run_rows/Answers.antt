@@ -8,24 +8,24 @@ use Rattle.plan.proofs.settling.run_rows.Given as given
 use Rattle.plan.proofs.settling.run_rows.Goals as goal
 
 proper : (g : given.Over) → ProperSets g.B.RuleBook.sets
-proper g = proper_sets g.Kind.Window.kind g.met.Kind.Window.proper g.B.RuleBook.sets g.met.B.RuleBook.tied
+proper g = proper_sets g.B.Kind.Window.kind g.met.B.Kind.Window.proper g.B.RuleBook.sets g.met.B.RuleBook.tied
 
 pub loop-rule-init : goal.loop-rule-init
-loop-rule-init g c = started g.B.RuleBook.sets g.P.Policy.choice (g.B.RuleBook.rules c.args.book.now) (g.P.Policy.waiting c.args.policy.now) (map g.Kind.Window.stands c.args.rows.now) c.requires.windows
+loop-rule-init g c = started g.B.RuleBook.sets g.P.Policy.choice (g.B.RuleBook.rules c.args.book.now) (g.P.Policy.waiting c.args.policy.now) (map g.B.Kind.Window.stands c.args.rows.now) c.requires.windows
 
-pub overflow-add-steps : goal.overflow-add-steps
-overflow-add-steps g c =
+pub overflow_add-steps : goal.overflow_add-steps
+overflow_add-steps g c =
     let book = c.args.book.now in
     let rows = c.args.rows.now in
-    let few : length (map g.Kind.Window.stands rows) ≤ 64 = simp length-map c.requires.few in
-    let fits = no_overflow g.B.RuleBook.sets g.P.Policy.choice (proper g) g.met.P.Policy.chooses (g.B.RuleBook.rules book) (g.met.B.RuleBook.few book) (g.met.B.RuleBook.lawful book) (g.P.Policy.waiting c.args.policy.now) (map g.Kind.Window.stands rows) c.loop-rule.steps (g.P.Policy.waiting c.loop-rule.policy) (map g.Kind.Window.stands c.loop-rule.rows) c.in-Some.rule c.requires.windows few (at_most_64 (g.P.Policy.waiting c.args.policy.now) (g.met.P.Policy.all_distinct c.args.policy.now)) c.loop-rule.invariant (ap (λ (t : Taken). t.answer) c.in-Some.ensures) in
+    let few : length (map g.B.Kind.Window.stands rows) ≤ 64 = simp length-map c.requires.few in
+    let fits = no_overflow g.B.RuleBook.sets g.P.Policy.choice (proper g) g.met.P.Policy.chooses (g.B.RuleBook.rules book) (g.met.B.RuleBook.few book) (g.met.B.RuleBook.lawful book) (g.P.Policy.waiting c.args.policy.now) (map g.B.Kind.Window.stands rows) c.loop-rule.steps (g.P.Policy.waiting c.loop-rule.policy) (map g.B.Kind.Window.stands c.loop-rule.rows) c.in-Some.rule c.requires.windows few (at_most_64 (g.P.Policy.waiting c.args.policy.now) (g.met.P.Policy.all_distinct c.args.policy.now)) c.loop-rule.invariant (ap (λ (t : Taken). t.answer) c.in-Some.ensures) in
     omega arith
 
 -- the turn after a narrowing that emptied nothing
-changed : (g : given.Over) (c : goal.After-wake g) → Turned g.B.RuleBook.sets g.P.Policy.choice (g.B.RuleBook.rules c.args.book.now) (g.P.Policy.waiting c.args.policy.now) (map g.Kind.Window.stands c.args.rows.now) c.loop-rule.steps (g.P.Policy.waiting c.loop-rule.policy) (map g.Kind.Window.stands c.loop-rule.rows) (g.P.Policy.waiting c.wake.new.policy) (map g.Kind.Window.stands c.narrow.new.rows)
+changed : (g : given.Over) (c : goal.After-wake g) → Turned g.B.RuleBook.sets g.P.Policy.choice (g.B.RuleBook.rules c.args.book.now) (g.P.Policy.waiting c.args.policy.now) (map g.B.Kind.Window.stands c.args.rows.now) c.loop-rule.steps (g.P.Policy.waiting c.loop-rule.policy) (map g.B.Kind.Window.stands c.loop-rule.rows) (g.P.Policy.waiting c.wake.new.policy) (map g.B.Kind.Window.stands c.narrow.new.rows)
 changed g c =
     let book = c.args.book.now in
-    changed_turn g.B.RuleBook.sets g.P.Policy.choice (proper g) g.met.P.Policy.chooses (g.B.RuleBook.rules book) (g.met.B.RuleBook.few book) (g.met.B.RuleBook.lawful book) (g.P.Policy.waiting c.args.policy.now) (map g.Kind.Window.stands c.args.rows.now) c.loop-rule.steps (g.P.Policy.waiting c.loop-rule.policy) (map g.Kind.Window.stands c.loop-rule.rows) c.loop-rule.invariant c.in-Some.rule (g.P.Policy.waiting c.take.new.self) c.in-Some.ensures (map g.Kind.Window.stands c.narrow.new.rows) (g.P.Policy.waiting c.wake.new.policy) c.in-Changed.changes (length c.args.rows.now) (simp length-map (omega arith)) c.in-Changed.ensures.equation c.wake.ensures
+    changed_turn g.B.RuleBook.sets g.P.Policy.choice (proper g) g.met.P.Policy.chooses (g.B.RuleBook.rules book) (g.met.B.RuleBook.few book) (g.met.B.RuleBook.lawful book) (g.P.Policy.waiting c.args.policy.now) (map g.B.Kind.Window.stands c.args.rows.now) c.loop-rule.steps (g.P.Policy.waiting c.loop-rule.policy) (map g.B.Kind.Window.stands c.loop-rule.rows) c.loop-rule.invariant c.in-Some.rule (g.P.Policy.waiting c.take.new.self) c.in-Some.ensures (map g.B.Kind.Window.stands c.narrow.new.rows) (g.P.Policy.waiting c.wake.new.policy) c.in-Changed.changes (length c.args.rows.now) (simp length-map (omega arith)) c.in-Changed.ensures.equation c.wake.ensures
 
 pub loop-rule-smaller : goal.loop-rule-smaller
 loop-rule-smaller g c = (changed g c).less
@@ -36,10 +36,10 @@ loop-rule-preserved g c = (changed g c).again
 pub returns-in-Emptied : goal.returns-in-Emptied
 returns-in-Emptied g c =
     let book = c.args.book.now in
-    emptied_end g.B.RuleBook.sets g.P.Policy.choice (proper g) g.met.P.Policy.chooses (g.B.RuleBook.rules book) (g.met.B.RuleBook.few book) (g.met.B.RuleBook.lawful book) (g.P.Policy.waiting c.args.policy.now) (map g.Kind.Window.stands c.args.rows.now) c.loop-rule.steps (g.P.Policy.waiting c.loop-rule.policy) (map g.Kind.Window.stands c.loop-rule.rows) c.loop-rule.invariant c.in-Some.rule (g.P.Policy.waiting c.take.new.self) c.in-Some.ensures (map g.Kind.Window.stands c.narrow.new.rows) c.in-Emptied.window c.in-Emptied.ensures.equation
+    emptied_end g.B.RuleBook.sets g.P.Policy.choice (proper g) g.met.P.Policy.chooses (g.B.RuleBook.rules book) (g.met.B.RuleBook.few book) (g.met.B.RuleBook.lawful book) (g.P.Policy.waiting c.args.policy.now) (map g.B.Kind.Window.stands c.args.rows.now) c.loop-rule.steps (g.P.Policy.waiting c.loop-rule.policy) (map g.B.Kind.Window.stands c.loop-rule.rows) c.loop-rule.invariant c.in-Some.rule (g.P.Policy.waiting c.take.new.self) c.in-Some.ensures (map g.B.Kind.Window.stands c.narrow.new.rows) c.in-Emptied.window c.in-Emptied.ensures.equation
 
 pub returns : goal.returns
 returns g c =
     let book = c.args.book.now in
-    let told = c.in-default.ensures in
-    last_turn g.B.RuleBook.sets g.P.Policy.choice (proper g) g.met.P.Policy.chooses (g.B.RuleBook.rules book) (g.met.B.RuleBook.few book) (g.met.B.RuleBook.lawful book) (g.P.Policy.waiting c.args.policy.now) (map g.Kind.Window.stands c.args.rows.now) c.loop-rule.steps (g.P.Policy.waiting c.loop-rule.policy) (map g.Kind.Window.stands c.loop-rule.rows) (g.P.Policy.waiting c.take.new.self) c.loop-rule.invariant (ap (λ (t : Taken). t.answer) told) (sym (ap (λ (t : Taken). t.after) told))
+    let told = c.in_default.ensures in
+    last_turn g.B.RuleBook.sets g.P.Policy.choice (proper g) g.met.P.Policy.chooses (g.B.RuleBook.rules book) (g.met.B.RuleBook.few book) (g.met.B.RuleBook.lawful book) (g.P.Policy.waiting c.args.policy.now) (map g.B.Kind.Window.stands c.args.rows.now) c.loop-rule.steps (g.P.Policy.waiting c.loop-rule.policy) (map g.B.Kind.Window.stands c.loop-rule.rows) (g.P.Policy.waiting c.take.new.self) c.loop-rule.invariant (ap (λ (t : Taken). t.answer) told) (sym (ap (λ (t : Taken). t.after) told))

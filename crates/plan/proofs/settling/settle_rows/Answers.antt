@@ -6,12 +6,11 @@ use Rattle.plan.specs.Refusals.{refused}
 use Rattle.plan.specs.Views.{view, copies}
 use Rattle.plan.proofs.BoardLaws.{fine, all_kinds, counted}
 use Rattle.plan.proofs.CallExits.{call_refused, settle_impossible, settle_ran}
-use Rattle.plan.proofs.settling.settle_rows.Given as given
 use Rattle.plan.proofs.settling.settle_rows.Goals as goal
 
 pub returns-in-Some : goal.returns-in-Some
 returns-in-Some g c =
-    let stands = g.Kind.Window.stands in
+    let stands = g.B.Kind.Window.stands in
     let status = c.args.status.now in
     let rows = c.args.rows.now in
     record {
@@ -21,35 +20,35 @@ returns-in-Some g c =
 
 pub returns-then-status : goal.returns-then-status
 returns-then-status g c =
-    let stands = g.Kind.Window.stands in
+    let stands = g.B.Kind.Window.stands in
     let status = c.args.status.now in
     let rows = c.args.rows.now in
     record {
-      equation = λ store. let s : State = view stands (g.B.RuleBook.rules c.args.book.now) (g.P.Policy.waiting c.args.policy.now) status rows store in settle_impossible g.P.Policy.choice c.args.stored s (sym (counted stands rows (λ n. eqb n status.windows) None c.args.stored c.in-default.ensures)) c.if-status.true;
+      equation = λ store. let s : State = view stands (g.B.RuleBook.rules c.args.book.now) (g.P.Policy.waiting c.args.policy.now) status rows store in settle_impossible g.P.Policy.choice c.args.stored s (sym (counted stands rows (λ n. eqb n status.windows) None c.args.stored c.in_default.ensures)) c.if-status.true;
       rows = tt;
     }
 
-pub run-rows-verdict-requires : goal.run-rows-verdict-requires
-run-rows-verdict-requires g c =
-    let f = fine (map g.Kind.Window.stands c.args.rows.now) c.args.stored (eqb (length c.args.rows.now) c.args.status.now.windows) (sym c.in-default.ensures) in
-    record { few = simp length-map at f.few; windows = all_kinds g.Kind.Window.stands g.B.RuleBook.sets c.args.rows.now (λ row n. (g.met.B.RuleBook.tied (g.Kind.Window.stands row)).1 (g.met.Kind.Window.rows row n)) f.windows }
+pub run_rows-verdict-requires : goal.run_rows-verdict-requires
+run_rows-verdict-requires g c =
+    let f = fine (map g.B.Kind.Window.stands c.args.rows.now) c.args.stored (eqb (length c.args.rows.now) c.args.status.now.windows) (sym c.in_default.ensures) in
+    record { few = simp length-map at f.few; windows = all_kinds g.B.Kind.Window.stands g.B.RuleBook.sets c.args.rows.now (λ row n. (g.met.B.RuleBook.tied (g.B.Kind.Window.stands row)).1 (g.met.B.Kind.Window.rows row n)) f.windows }
 
 pub returns-in-Impossible : goal.returns-in-Impossible
 returns-in-Impossible g c =
-    let stands = g.Kind.Window.stands in
+    let stands = g.B.Kind.Window.stands in
     let status = c.args.status.now in
     let rows = c.args.rows.now in
     record {
-      equation = λ store. settle_ran g.P.Policy.choice c.args.stored (g.B.RuleBook.rules c.args.book.now) (g.P.Policy.waiting c.args.policy.now) status.impossible (map stands rows) status.windows (copies stands status.slots status.windows store status.depth) status.handed c.run-rows-verdict.result (g.P.Policy.waiting c.run-rows-verdict.new.policy) true (map stands c.run-rows-verdict.new.rows) (sym (counted stands rows (λ n. eqb n status.windows) None c.args.stored c.in-default.ensures)) c.if-status.false c.run-rows-verdict.ensures (sym (ap is_impossible c.in-Impossible.is));
+      equation = λ store. settle_ran g.P.Policy.choice c.args.stored (g.B.RuleBook.rules c.args.book.now) (g.P.Policy.waiting c.args.policy.now) status.impossible (map stands rows) status.windows (copies stands status.slots status.windows store status.depth) status.handed c.run_rows-verdict.result (g.P.Policy.waiting c.run_rows-verdict.new.policy) true (map stands c.run_rows-verdict.new.rows) (sym (counted stands rows (λ n. eqb n status.windows) None c.args.stored c.in_default.ensures)) c.if-status.false c.run_rows-verdict.ensures (sym (ap is_impossible c.in-Impossible.is));
       rows = tt;
     }
 
-pub returns-in-default-verdict : goal.returns-in-default-verdict
-returns-in-default-verdict g c =
-    let stands = g.Kind.Window.stands in
+pub returns-in_default-verdict : goal.returns-in_default-verdict
+returns-in_default-verdict g c =
+    let stands = g.B.Kind.Window.stands in
     let status = c.args.status.now in
     let rows = c.args.rows.now in
     record {
-      equation = λ store. settle_ran g.P.Policy.choice c.args.stored (g.B.RuleBook.rules c.args.book.now) (g.P.Policy.waiting c.args.policy.now) status.impossible (map stands rows) status.windows (copies stands status.slots status.windows store status.depth) status.handed c.run-rows-verdict.result (g.P.Policy.waiting c.run-rows-verdict.new.policy) status.impossible (map stands c.run-rows-verdict.new.rows) (sym (counted stands rows (λ n. eqb n status.windows) None c.args.stored c.in-default.ensures)) c.if-status.false c.run-rows-verdict.ensures (c.if-status.false ∙ sym (ap is_impossible c.in-default-verdict.is));
+      equation = λ store. settle_ran g.P.Policy.choice c.args.stored (g.B.RuleBook.rules c.args.book.now) (g.P.Policy.waiting c.args.policy.now) status.impossible (map stands rows) status.windows (copies stands status.slots status.windows store status.depth) status.handed c.run_rows-verdict.result (g.P.Policy.waiting c.run_rows-verdict.new.policy) status.impossible (map stands c.run_rows-verdict.new.rows) (sym (counted stands rows (λ n. eqb n status.windows) None c.args.stored c.in_default.ensures)) c.if-status.false c.run_rows-verdict.ensures (c.if-status.false ∙ sym (ap is_impossible c.in_default-verdict.is));
       rows = tt;
     }

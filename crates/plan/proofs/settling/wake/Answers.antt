@@ -16,10 +16,10 @@ loop-i-preserved g c =
       | else-touches w ↦ puts_no f c.loop-i.i before (g.P.Policy.waiting c.loop-i.policy) (g.P.Policy.waiting c.if-touches.policy) c.loop-i.invariant (sym c.touches.ensures ∙ w.if-touches.false) (ap g.P.Policy.waiting w.policy-is)
     ]
 
-pub returns-then-is-empty : goal.returns-then-is-empty
-returns-then-is-empty g c =
+pub returns-then-is_empty : goal.returns-then-is_empty
+returns-then-is_empty g c =
     let changes = c.args.changes in
-    let none : any (member changes) 64 ≡ false = not-true (any (member changes) 64) (sym c.is_empty.ensures ∙ c.if-is-empty.true) in
+    let none : any (member changes) 64 ≡ false = not-true (any (member changes) 64) (sym c.is_empty.ensures ∙ c.if-is_empty.true) in
     sym (nothing_woken (g.B.RuleBook.rules c.args.book.now) changes c.args.windows (g.P.Policy.waiting c.args.policy.now) none)
 
 pub returns : goal.returns

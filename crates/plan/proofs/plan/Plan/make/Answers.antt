@@ -16,7 +16,7 @@ use Rattle.plan.proofs.plan.Plan.make.Goals as goal
 
 pub returns-in-Some : goal.returns-in-Some
 returns-in-Some g c =
-    let stands = g.Kind.Window.stands in
+    let stands = g.B.Kind.Window.stands in
     let rules = g.B.RuleBook.rules c.args.book in
     let w = g.P.Policy.waiting c.args.policy in
     let store = c.args.board.now.store.now in
@@ -34,20 +34,20 @@ returns-in-Some g c =
 pub returns : goal.returns
 returns g c =
     let sets = g.B.RuleBook.sets in
-    let stands = g.Kind.Window.stands in
+    let stands = g.B.Kind.Window.stands in
     let rules = g.B.RuleBook.rules c.args.book in
     let rows = c.args.board.now.rows.now in
     let store = c.args.board.now.store.now in
     let T = map stands rows in
     let status = c.new-status-2.result in
-    let e : make_refused rules T (length store) ≡ None = sym (c.in-default.ensures ∙ ap (λ (n : ℕ). board_refusal T (length store) (leb n (length T))) c.reach.ensures) in
-    let waits : g.P.Policy.waiting c.put-all.new.policy ≡ all_waiting rules = c.put-all.ensures ∙ ap (λ (n : ℕ). puts (λ _. true) n (g.P.Policy.waiting c.clear.new.self)) c.count.ensures ∙ ap (puts (λ _. true) (length rules)) c.clear.ensures in
+    let e : make_refused rules T (length store) ≡ None = sym (c.in_default.ensures ∙ ap (λ (n : ℕ). board_refusal T (length store) (leb n (length T))) c.reach.ensures) in
+    let waits : g.P.Policy.waiting c.put_all.new.policy ≡ all_waiting rules = c.put_all.ensures ∙ ap (λ (n : ℕ). puts (λ _. true) n (g.P.Policy.waiting c.clear.new.self)) c.count.ensures ∙ ap (puts (λ _. true) (length rules)) c.clear.ensures in
     let same = same_state {q = rules} {T = T} refl waits c.new-status-2.ensures.possible refl (c.new-status-2.ensures.windows ∙ sym (length-map rows stands)) (ap (copies stands status.slots status.windows store) c.new-status-2.ensures.depth) c.new-status-2.ensures.handed in
-    let kinds = all_kinds stands sets rows (λ row n. (g.met.B.RuleBook.tied (stands row)).1 (g.met.Kind.Window.rows row n)) (fine T (length store) (leb (reach_of rules 64) (length T)) e).windows in
+    let kinds = all_kinds stands sets rows (λ row n. (g.met.B.RuleBook.tied (stands row)).1 (g.met.B.Kind.Window.rows row n)) (fine T (length store) (leb (reach_of rules 64) (length T)) e).windows in
     let reached = subst (Reached sets g.P.Policy.choice (ask_made rules T)) (sym same) (made rules T (g.met.B.RuleBook.few c.args.book) (g.met.B.RuleBook.lawful c.args.book) kinds) in
     record {
       equation = ap (λ (o : Option PlanRefusal). made_unless o rules (g.P.Policy.waiting c.args.policy) T) e ∙ ap {B = Made} (λ (t : State). record { refusal = None; after = t }) (sym same);
       book = refl;
       policy = tt;
-      asked = (reached, reached_holds sets g.P.Policy.choice (proper_sets g.Kind.Window.kind g.met.Kind.Window.proper sets g.met.B.RuleBook.tied) g.met.P.Policy.chooses (ask_made rules T) _ reached);
+      asked = (reached, reached_holds sets g.P.Policy.choice (proper_sets g.B.Kind.Window.kind g.met.B.Kind.Window.proper sets g.met.B.RuleBook.tied) g.met.P.Policy.chooses (ask_made rules T) _ reached);
     }

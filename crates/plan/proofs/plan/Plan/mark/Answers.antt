@@ -12,55 +12,54 @@ use Rattle.plan.proofs.BoardLaws.{fine_rows}
 use Rattle.plan.proofs.MarkLaws.{copies_long, marked_copies, same_state, may_mark, too_many, all_handed, room_at, small_place}
 use Rattle.plan.proofs.CallExits.{asked_first, asked_next, call_refused, call_done}
 use Rattle.plan.proofs.Theorem.{refused_carries, call_carries}
-use Rattle.plan.proofs.plan.Plan.mark.Given as given
 use Rattle.plan.proofs.plan.Plan.mark.Goals as goal
 
 pub returns-in-Some : goal.returns-in-Some
 returns-in-Some g c =
-    let s : State = state_of g.B.RuleBook.rules g.P.Policy.waiting g.Kind.Window.stands c.args.self.now c.args.board.now in
+    let s : State = state_of g.B.RuleBook.rules g.P.Policy.waiting g.B.Kind.Window.stands c.args.self.now c.args.board.now in
     let board = refused (length c.args.board.now.store.now) s in
     record {
       equation = call_refused (or_else board (mark_refusal s)) c.in-Some.refused s (record { answer = Ok (record { number = s.handed }); after = marking s }) (asked_first board (mark_refusal s) c.in-Some.refused c.in-Some.ensures);
       rows = refl;
       store = refl;
       lent = (refl, refl);
-      asked = refused_carries g.B.RuleBook.sets g.P.Policy.choice (proper_sets g.Kind.Window.kind g.met.Kind.Window.proper g.B.RuleBook.sets g.met.B.RuleBook.tied) g.met.P.Policy.chooses s;
+      asked = refused_carries g.B.RuleBook.sets g.P.Policy.choice (proper_sets g.B.Kind.Window.kind g.met.B.Kind.Window.proper g.B.RuleBook.sets g.met.B.RuleBook.tied) g.met.P.Policy.chooses s;
     }
 
 pub returns-then-depth-ge16 : goal.returns-then-depth-ge16
 returns-then-depth-ge16 g c =
-    let s : State = state_of g.B.RuleBook.rules g.P.Policy.waiting g.Kind.Window.stands c.args.self.now c.args.board.now in
+    let s : State = state_of g.B.RuleBook.rules g.P.Policy.waiting g.B.Kind.Window.stands c.args.self.now c.args.board.now in
     let board = refused (length c.args.board.now.store.now) s in
     let status = c.args.self.now.status in
-    let long = copies_long g.Kind.Window.stands status.slots status.windows c.args.board.now.store.now 0 status.depth in
+    let long = copies_long g.B.Kind.Window.stands status.slots status.windows c.args.board.now.store.now 0 status.depth in
     let l : 16 ≤ length s.marks = omega (arith, long, c.if-depth-ge16.true) in
     record {
-      equation = call_refused (or_else board (mark_refusal s)) Marks s (record { answer = Ok (record { number = s.handed }); after = marking s }) (asked_next board (mark_refusal s) (Some Marks) c.in-default.ensures (too_many s l));
+      equation = call_refused (or_else board (mark_refusal s)) Marks s (record { answer = Ok (record { number = s.handed }); after = marking s }) (asked_next board (mark_refusal s) (Some Marks) c.in_default.ensures (too_many s l));
       rows = refl;
       store = refl;
       lent = (refl, refl);
-      asked = refused_carries g.B.RuleBook.sets g.P.Policy.choice (proper_sets g.Kind.Window.kind g.met.Kind.Window.proper g.B.RuleBook.sets g.met.B.RuleBook.tied) g.met.P.Policy.chooses s;
+      asked = refused_carries g.B.RuleBook.sets g.P.Policy.choice (proper_sets g.B.Kind.Window.kind g.met.B.Kind.Window.proper g.B.RuleBook.sets g.met.B.RuleBook.tied) g.met.P.Policy.chooses s;
     }
 
 pub returns-then-number-ge1000000000 : goal.returns-then-number-ge1000000000
 returns-then-number-ge1000000000 g c =
-    let s : State = state_of g.B.RuleBook.rules g.P.Policy.waiting g.Kind.Window.stands c.args.self.now c.args.board.now in
+    let s : State = state_of g.B.RuleBook.rules g.P.Policy.waiting g.B.Kind.Window.stands c.args.self.now c.args.board.now in
     let board = refused (length c.args.board.now.store.now) s in
     let status = c.args.self.now.status in
-    let long = copies_long g.Kind.Window.stands status.slots status.windows c.args.board.now.store.now 0 status.depth in
+    let long = copies_long g.B.Kind.Window.stands status.slots status.windows c.args.board.now.store.now 0 status.depth in
     let l : length s.marks < 16 = omega (arith, long, c.if-depth-ge16.false) in
     record {
-      equation = call_refused (or_else board (mark_refusal s)) Handed s (record { answer = Ok (record { number = s.handed }); after = marking s }) (asked_next board (mark_refusal s) (Some Handed) c.in-default.ensures (all_handed s l c.if-number-ge1000000000.true));
+      equation = call_refused (or_else board (mark_refusal s)) Handed s (record { answer = Ok (record { number = s.handed }); after = marking s }) (asked_next board (mark_refusal s) (Some Handed) c.in_default.ensures (all_handed s l c.if-number-ge1000000000.true));
       rows = refl;
       store = refl;
       lent = (refl, refl);
-      asked = refused_carries g.B.RuleBook.sets g.P.Policy.choice (proper_sets g.Kind.Window.kind g.met.Kind.Window.proper g.B.RuleBook.sets g.met.B.RuleBook.tied) g.met.P.Policy.chooses s;
+      asked = refused_carries g.B.RuleBook.sets g.P.Policy.choice (proper_sets g.B.Kind.Window.kind g.met.B.Kind.Window.proper g.B.RuleBook.sets g.met.B.RuleBook.tied) g.met.P.Policy.chooses s;
     }
 
-pub overflow-mul-depth : goal.overflow-mul-depth
-overflow-mul-depth g c =
+pub overflow_mul-depth : goal.overflow_mul-depth
+overflow_mul-depth g c =
     let status = c.args.self.now.status in
-    let f = fine_rows g.Kind.Window.stands c.args.board.now.rows.now (length c.args.board.now.store.now) status.windows c.in-default.ensures in
+    let f = fine_rows g.B.Kind.Window.stands c.args.board.now.rows.now (length c.args.board.now.store.now) status.windows c.in_default.ensures in
     let few : status.windows ≤ 64 = omega (arith, f.0, f.1) in
     let h = small_place status.depth status.windows c.if-depth-ge16.false few in
     omega arith
@@ -69,7 +68,7 @@ pub save-requires : goal.save-requires
 save-requires g c =
     let status = c.args.self.now.status in
     let rows = c.args.board.now.rows.now in
-    let f = fine_rows g.Kind.Window.stands rows (length c.args.board.now.store.now) status.windows c.in-default.ensures in
+    let f = fine_rows g.B.Kind.Window.stands rows (length c.args.board.now.store.now) status.windows c.in_default.ensures in
     room_at status.depth status.windows (length c.args.board.now.store.now) (length rows) f.0 c.if-depth-ge16.false f.2
 
 pub returns : goal.returns
@@ -79,13 +78,13 @@ returns g c =
     let board = c.args.board.now in
     let rows = board.rows.now in
     let store = board.store.now in
-    let stands = g.Kind.Window.stands in
+    let stands = g.B.Kind.Window.stands in
     let s : State = state_of g.B.RuleBook.rules g.P.Policy.waiting stands plan board in
     let long : length s.marks ≡ status.depth = copies_long stands status.slots status.windows store 0 status.depth in
     let l : length s.marks < 16 = omega (arith, long, c.if-depth-ge16.false) in
     let o = or_else (refused (length store) s) (mark_refusal s) in
-    let none : o ≡ None = asked_next (refused (length store) s) (mark_refusal s) None c.in-default.ensures (may_mark s l c.if-number-ge1000000000.false) in
-    let f = fine_rows stands rows (length store) status.windows c.in-default.ensures in
+    let none : o ≡ None = asked_next (refused (length store) s) (mark_refusal s) None c.in_default.ensures (may_mark s l c.if-number-ge1000000000.false) in
+    let f = fine_rows stands rows (length store) status.windows c.in_default.ensures in
     let room = room_at status.depth status.windows (length store) (length rows) f.0 c.if-depth-ge16.false f.2 in
     let room' : status.depth * status.windows ≤ length store = omega arith in
     let marks = marked_copies stands status.slots c.push.new.self.slots store c.save.new.self.store.now rows status.depth c.push.new.self.depth status.windows c.push.new.self.windows (record { number = status.handed; count = c.count-count.result; impossible = status.impossible }) c.push.ensures.slots f.0 c.push.ensures.windows c.push.ensures.depth c.save.ensures.store room' in
@@ -98,5 +97,5 @@ returns g c =
       rows = c.save.ensures.rows;
       store = c.save.ensures.store ∙ ap (λ (d : ℕ). stored store (d * status.windows) rows) (sym long);
       lent = c.save.ensures.lent;
-      asked = call_carries g.B.RuleBook.sets g.P.Policy.choice (proper_sets g.Kind.Window.kind g.met.Kind.Window.proper g.B.RuleBook.sets g.met.B.RuleBook.tied) g.met.P.Policy.chooses (ask_marked status.handed) s o token (marking s) _ _ (λ _ a h. marked a s h) equation;
+      asked = call_carries g.B.RuleBook.sets g.P.Policy.choice (proper_sets g.B.Kind.Window.kind g.met.B.Kind.Window.proper g.B.RuleBook.sets g.met.B.RuleBook.tied) g.met.P.Policy.chooses (ask_marked status.handed) s o token (marking s) _ _ (λ _ a h. marked a s h) equation;
     }

@@ -13,48 +13,48 @@ use Rattle.plan.proofs.plan.Plan.show.Goals as goal
 
 pub returns-in-Some : goal.returns-in-Some
 returns-in-Some g c =
-    let s : State = state_of g.B.RuleBook.rules g.P.Policy.waiting g.Kind.Window.stands c.args.self.now c.args.board.now in
+    let s : State = state_of g.B.RuleBook.rules g.P.Policy.waiting g.B.Kind.Window.stands c.args.self.now c.args.board.now in
     let j = c.args.j in
     let board = refused (length c.args.board.now.store.now) s in
     record {
       equation = ap (λ (o : Option PlanRefusal). shown o (window s.table j)) (asked_first board (or_else (window_refusal j s.table) (possible_refusal s)) c.in-Some.refused c.in-Some.ensures);
-      asked = shows_all g.B.RuleBook.sets g.P.Policy.choice (proper_sets g.Kind.Window.kind g.met.Kind.Window.proper g.B.RuleBook.sets g.met.B.RuleBook.tied) g.met.P.Policy.chooses s;
+      asked = shows_all g.B.RuleBook.sets g.P.Policy.choice (proper_sets g.B.Kind.Window.kind g.met.B.Kind.Window.proper g.B.RuleBook.sets g.met.B.RuleBook.tied) g.met.P.Policy.chooses s;
     }
 
-pub returns-in-default-window-at : goal.returns-in-default-window-at
-returns-in-default-window-at g c =
-    let s : State = state_of g.B.RuleBook.rules g.P.Policy.waiting g.Kind.Window.stands c.args.self.now c.args.board.now in
+pub returns-in_default-window_at : goal.returns-in_default-window_at
+returns-in_default-window_at g c =
+    let s : State = state_of g.B.RuleBook.rules g.P.Policy.waiting g.B.Kind.Window.stands c.args.self.now c.args.board.now in
     let j = c.args.j in
     let long = length c.args.board.now.store.now in
-    let f = fine s.table long (eqb (length s.table) s.windows) (sym c.in-default.ensures) in
-    let next = asked_first (window_refusal j s.table) (possible_refusal s) Window (sym (no_window s.table j f.windows c.in-default-window-at.ensures)) in
+    let f = fine s.table long (eqb (length s.table) s.windows) (sym c.in_default.ensures) in
+    let next = asked_first (window_refusal j s.table) (possible_refusal s) Window (sym (no_window s.table j f.windows c.in_default-window_at.ensures)) in
     record {
-      equation = ap (λ (o : Option PlanRefusal). shown o (window s.table j)) (asked_next (refused long s) (or_else (window_refusal j s.table) (possible_refusal s)) (Some Window) c.in-default.ensures next);
-      asked = shows_all g.B.RuleBook.sets g.P.Policy.choice (proper_sets g.Kind.Window.kind g.met.Kind.Window.proper g.B.RuleBook.sets g.met.B.RuleBook.tied) g.met.P.Policy.chooses s;
+      equation = ap (λ (o : Option PlanRefusal). shown o (window s.table j)) (asked_next (refused long s) (or_else (window_refusal j s.table) (possible_refusal s)) (Some Window) c.in_default.ensures next);
+      asked = shows_all g.B.RuleBook.sets g.P.Policy.choice (proper_sets g.B.Kind.Window.kind g.met.B.Kind.Window.proper g.B.RuleBook.sets g.met.B.RuleBook.tied) g.met.P.Policy.chooses s;
     }
 
 pub returns-then-self : goal.returns-then-self
 returns-then-self g c =
-    let s : State = state_of g.B.RuleBook.rules g.P.Policy.waiting g.Kind.Window.stands c.args.self.now c.args.board.now in
+    let s : State = state_of g.B.RuleBook.rules g.P.Policy.waiting g.B.Kind.Window.stands c.args.self.now c.args.board.now in
     let j = c.args.j in
     let long = length c.args.board.now.store.now in
-    let w = c.in-Some-window-at.window in
-    let l = there_window s.table j (g.Kind.Window.numbers w) c.in-Some-window-at.ensures (g.met.Kind.Window.kinds w).some in
+    let w = c.in-Some-window_at.window in
+    let l = there_window s.table j (g.B.Kind.Window.numbers w) c.in-Some-window_at.ensures (g.met.B.Kind.Window.kinds w).some in
     let next = asked_next (window_refusal j s.table) (possible_refusal s) (Some Impossible) (sym (in_table j s.table l)) (no_more s c.if-self.true) in
     record {
-      equation = ap (λ (o : Option PlanRefusal). shown o (window s.table j)) (asked_next (refused long s) (or_else (window_refusal j s.table) (possible_refusal s)) (Some Impossible) c.in-default.ensures next);
-      asked = shows_all g.B.RuleBook.sets g.P.Policy.choice (proper_sets g.Kind.Window.kind g.met.Kind.Window.proper g.B.RuleBook.sets g.met.B.RuleBook.tied) g.met.P.Policy.chooses s;
+      equation = ap (λ (o : Option PlanRefusal). shown o (window s.table j)) (asked_next (refused long s) (or_else (window_refusal j s.table) (possible_refusal s)) (Some Impossible) c.in_default.ensures next);
+      asked = shows_all g.B.RuleBook.sets g.P.Policy.choice (proper_sets g.B.Kind.Window.kind g.met.B.Kind.Window.proper g.B.RuleBook.sets g.met.B.RuleBook.tied) g.met.P.Policy.chooses s;
     }
 
 pub returns : goal.returns
 returns g c =
-    let s : State = state_of g.B.RuleBook.rules g.P.Policy.waiting g.Kind.Window.stands c.args.self.now c.args.board.now in
+    let s : State = state_of g.B.RuleBook.rules g.P.Policy.waiting g.B.Kind.Window.stands c.args.self.now c.args.board.now in
     let j = c.args.j in
     let long = length c.args.board.now.store.now in
-    let w = c.in-Some-window-at.window in
-    let l = there_window s.table j (g.Kind.Window.numbers w) c.in-Some-window-at.ensures (g.met.Kind.Window.kinds w).some in
+    let w = c.in-Some-window_at.window in
+    let l = there_window s.table j (g.B.Kind.Window.numbers w) c.in-Some-window_at.ensures (g.met.B.Kind.Window.kinds w).some in
     let next = asked_next (window_refusal j s.table) (possible_refusal s) None (sym (in_table j s.table l)) (still_possible s c.if-self.false) in
     record {
-      equation = ap (λ (o : Option PlanRefusal). shown o (window s.table j)) (asked_next (refused long s) (or_else (window_refusal j s.table) (possible_refusal s)) None c.in-default.ensures next) ∙ ap Ok (sym c.in-Some-window-at.ensures);
-      asked = shows_all g.B.RuleBook.sets g.P.Policy.choice (proper_sets g.Kind.Window.kind g.met.Kind.Window.proper g.B.RuleBook.sets g.met.B.RuleBook.tied) g.met.P.Policy.chooses s;
+      equation = ap (λ (o : Option PlanRefusal). shown o (window s.table j)) (asked_next (refused long s) (or_else (window_refusal j s.table) (possible_refusal s)) None c.in_default.ensures next) ∙ ap Ok (sym c.in-Some-window_at.ensures);
+      asked = shows_all g.B.RuleBook.sets g.P.Policy.choice (proper_sets g.B.Kind.Window.kind g.met.B.Kind.Window.proper g.B.RuleBook.sets g.met.B.RuleBook.tied) g.met.P.Policy.chooses s;
     }
