@@ -15,11 +15,10 @@ use rules::{Book, BookRule};
 use windows::{Span, SpanRow};
 
 // The rulebook over spans: sums, products, differ and same.
+#[derive(Clone, Copy)]
 pub struct DayBook {
     book: Book<DayRule>,
 }
-
-impl Copy for DayBook {}
 
 impl DayBook {
     // A book with no rule.

@@ -16,11 +16,10 @@ use rules::{Book, BookRule};
 use sets::{Set, SetRow};
 
 // The rulebook over sets: differ, same and step.
+#[derive(Clone, Copy)]
 pub struct RoomBook {
     book: Book<RoomRule>,
 }
-
-impl Copy for RoomBook {}
 
 impl RoomBook {
     // A book with no rule.
