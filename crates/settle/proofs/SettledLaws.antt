@@ -1,7 +1,7 @@
 -- Settling rows: a plan that is made is not refused when it is settled.
 use Rattle.std.proofs.Common.{◌≡◌, ℕ, ◌+◌, ◌-◌, ◌*◌, ◌<◌, ◌≤◌, min, Bool, true, false, cond, eqb, leb, ◌⊎◌, List, ◌++◌, length, take, drop, Some, None, Ok, Err, Option, Result, sym, refl, ap, ◌∙◌, subst, ap₂, inl, inr, append-nil, arith, length-append, length-drop, take-append-drop}
 use Rattle.std.proofs.lemmas.List.{take_all, take_at, drop_all, drop_at}
-use Rattle.std.proofs.lemmas.Bool.{eq-eqb, leb-true, cases_lt, cond-true}
+use Rattle.std.proofs.lemmas.Bool.{eq-eqb, leb-true, cases_lt}
 use Rattle.rulebook.specs.Tables.{Table}
 use Rattle.rulebook.specs.Rules.{Rule}
 use Rattle.rulebook.specs.Answers.{reach_of}

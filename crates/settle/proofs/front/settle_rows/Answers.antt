@@ -1,4 +1,4 @@
-use Rattle.std.proofs.Common.{◌≤◌, List, map, length, Err, sym, ap, ◌∙◌, subst, ap₂, arith}
+use Rattle.std.proofs.Common.{◌≤◌, map, length, Err, sym, ap, ◌∙◌, subst, ap₂, arith}
 use Rattle.std.proofs.lemmas.List.{length-map}
 use Rattle.plan.specs.Views.{stored, Untouched}
 use Rattle.settle.specs.Settled.{ran, ran_to}
@@ -7,28 +7,28 @@ use Rattle.settle.proofs.front.settle_rows.Goals as goal
 
 pub returns-in-Some : goal.returns-in-Some
 returns-in-Some g c =
-    let e = c.make-refusal.ensures in
-    let asked = ran_asked (g.B.RuleBook.rules c.args.book) (map g.Kind.Window.stands c.args.rows.now) (length c.args.store.now) c.in-Some.refused c.in-Some.ensures.refusal in
-    record { equation = asked ∙ ap (ran_to g.Kind.Window.stands (Err c.in-Some.refused)) (sym e.rows); rows = e.rows; store = e.store }
+    let e = c.make_refusal.ensures in
+    let asked = ran_asked (g.B.RuleBook.rules c.args.book) (map g.B.Kind.Window.stands c.args.rows.now) (length c.args.store.now) c.in-Some.refused c.in-Some.ensures.refusal in
+    record { equation = asked ∙ ap (ran_to g.B.Kind.Window.stands (Err c.in-Some.refused)) (sym e.rows); rows = e.rows; store = e.store }
 
 pub returns-then-n-store : goal.returns-then-n-store
 returns-then-n-store g c =
-    let e = c.make-refusal.ensures in
+    let e = c.make_refusal.ensures in
     let rows = c.args.rows.now in
-    let long = stores (g.B.RuleBook.rules c.args.book) (map g.Kind.Window.stands rows) (length c.args.store.now) (sym c.in-default.ensures.refusal) in
-    absurd (omega (arith, long, length-map rows g.Kind.Window.stands, ap length e.rows, ap length e.store, c.if-n-store.true))
+    let long = stores (g.B.RuleBook.rules c.args.book) (map g.B.Kind.Window.stands rows) (length c.args.store.now) (sym c.in_default.ensures.refusal) in
+    absurd (omega (arith, long, length-map rows g.B.Kind.Window.stands, ap length e.rows, ap length e.store, c.if-n-store.true))
 
 pub returns : goal.returns
 returns g c =
-    let e = c.make-refusal.ensures in
+    let e = c.make_refusal.ensures in
     let rules = g.B.RuleBook.rules c.args.book in
     let rows = c.args.rows.now in
     let store = c.args.store.now in
-    let mid = c.copy-from-slice.new.self in
-    let none = c.in-default.ensures.refusal in
-    let last = c.settle-slices.ensures in
-    let fits : length c.make-refusal.new.rows ≤ length c.make-refusal.new.store = c.if-n-store.false in
-    let long = copied_long c.make-refusal.new.store c.make-refusal.new.rows mid c.copy-from-slice.ensures.after fits ∙ ap length e.store in
-    let equation = ap₂ (λ l n. ran rules (map g.Kind.Window.stands l) n) (sym e.rows) (sym long) ∙ last.equation in
-    let whole = copied c.make-refusal.new.store c.make-refusal.new.rows mid c.copy-from-slice.ensures.after in
-    record { equation = equation; rows = subst (λ l. Untouched c.settle-slices.result l c.settle-slices.new.rows) e.rows last.rows; store = last.store ∙ whole ∙ ap₂ (λ l m. stored l 0 m) e.store e.rows ∙ sym (given_stored rules (map g.Kind.Window.stands rows) (map g.Kind.Window.stands c.settle-slices.new.rows) (length store) c.settle-slices.result store rows none equation) }
+    let mid = c.copy_from_slice.new.self in
+    let none = c.in_default.ensures.refusal in
+    let last = c.settle_slices.ensures in
+    let fits : length c.make_refusal.new.rows ≤ length c.make_refusal.new.store = c.if-n-store.false in
+    let long = copied_long c.make_refusal.new.store c.make_refusal.new.rows mid c.copy_from_slice.ensures.after fits ∙ ap length e.store in
+    let equation = ap₂ (λ l n. ran rules (map g.B.Kind.Window.stands l) n) (sym e.rows) (sym long) ∙ last.equation in
+    let whole = copied c.make_refusal.new.store c.make_refusal.new.rows mid c.copy_from_slice.ensures.after in
+    record { equation = equation; rows = subst (λ l. Untouched c.settle_slices.result l c.settle_slices.new.rows) e.rows last.rows; store = last.store ∙ whole ∙ ap₂ (λ l m. stored l 0 m) e.store e.rows ∙ sym (given_stored rules (map g.B.Kind.Window.stands rows) (map g.B.Kind.Window.stands c.settle_slices.new.rows) (length store) c.settle_slices.result store rows none equation) }

@@ -8,7 +8,7 @@ use Rattle.sheet.proofs.item.sum_of.Goals as goal
 pub returns : goal.returns
 returns c =
     let p = c.args.payload.now in
-    let z = c.from-le-bytes.result in
+    let z = c.from_le_bytes.result in
     let long : 4 ≤ length p = search rules in
     let fits : SFits w32 z = search rules in
-    sum_is p _ _ _ long (to_z-of_z w32 z fits ∙ c.from-le-bytes.ensures) (c.terms-of-count.ensures.items ∙ ap (λ l. placed (replicate 8 (record { window = 0; weight = pos 0 })) 0 (terms l)) (from_is p 4)) (c.terms-of-count.ensures.count ∙ ap (λ l. length (terms l)) (from_is p 4))
+    sum_is p _ _ _ long (to_z-of_z w32 z fits ∙ c.from_le_bytes.ensures) (c.terms_of-count.ensures.items ∙ ap (λ l. placed (replicate 8 (record { window = 0; weight = pos 0 })) 0 (terms l)) (from_is p 4)) (c.terms_of-count.ensures.count ∙ ap (λ l. length (terms l)) (from_is p 4))

@@ -6,7 +6,7 @@ use Rattle.listing.proofs.text.lines.write_lines.Goals as goal
 pub loop-i-preserved : goal.loop-i-preserved
 loop-i-preserved g c =
     let i = c.loop-i.i in
-    (lines_more g.R.Shown.look (written c.loop-i.text) (written c.write-line.new.text) i c.args.rows.now c.args.given.now c.index-rows-i.result c.index-given-i.result c.loop-i-test.true c.if-i-rows.false c.if-i-given.false c.index-rows-i.is c.index-given-i.is c.write-line.ensures.bytes ∙ c.loop-i.invariant.0, omega arith)
+    (lines_more g.R.Shown.look (written c.loop-i.text) (written c.write_line.new.text) i c.args.rows.now c.args.given.now c.index-rows-i.result c.index-given-i.result c.loop-i-test.true c.if-i-rows.false c.if-i-given.false c.index-rows-i.is c.index-given-i.is c.write_line.ensures.bytes ∙ c.loop-i.invariant.0, omega arith)
 
 pub returns : goal.returns
 returns g c =

@@ -6,8 +6,8 @@ use Rattle.sheet.proofs.states.Open.add_window.Goals as goal
 
 pub returns : goal.returns
 returns c =
-    let w = c.in-Some.-window in
+    let w = c.in-Some._window in
     record { value = cond-true (span_stands c.args.row) _ _ (row_passes c.args.row w.lo w.hi w.stands c.in-Some.ensures); kept = tt }
 
-pub returns-in-default : goal.returns-in-default
-returns-in-default c = record { value = cond-false (span_stands c.args.row) _ _ (row_fails c.args.row c.in-default.ensures); kept = refl }
+pub returns-in_default : goal.returns-in_default
+returns-in_default c = record { value = cond-false (span_stands c.args.row) _ _ (row_fails c.args.row c.in_default.ensures); kept = refl }

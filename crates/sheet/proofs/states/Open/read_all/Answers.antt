@@ -28,9 +28,9 @@ loop-turn-preserved c =
     let s = view c.loop-turn.self c.loop-turn.lent in
     let n = 15361 - c.loop-turn.turn in
     let left : 0 < n = omega arith in
-    let e : (reading bs s).answer ≡ Ok (taken.Record c.in-Ok-Record.-kind) = search rules in
+    let e : (reading bs s).answer ≡ Ok (taken.Record c.in-Ok-Record._kind) = search rules in
     let m : 15361 - (c.loop-turn.turn + 1) ≡ n - 1 = omega arith in
-    ap (λ k. readings k bs (view c.read.new.self c.read.new.lent)) m ∙ ap (λ x. readings (n - 1) bs x.after) (sym c.read.ensures) ∙ sym (on_more n bs s c.in-Ok-Record.-kind left e) ∙ c.loop-turn.invariant
+    ap (λ k. readings k bs (view c.read.new.self c.read.new.lent)) m ∙ ap (λ x. readings (n - 1) bs x.after) (sym c.read.ensures) ∙ sym (on_more n bs s c.in-Ok-Record._kind left e) ∙ c.loop-turn.invariant
 
 pub returns : goal.returns
 returns c =

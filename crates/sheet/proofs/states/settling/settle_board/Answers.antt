@@ -14,4 +14,4 @@ pub returns : goal.returns
 returns c =
     let board = c.args.board.now in
     let waiting = take c.new.result.list.len c.new.result.list.rules in
-    record { equation = ran_settled (day_rules c.args.book) waiting (map span_numbers board.rows.now) (length board.store.now) c.make-refusal.result.1 _ _ c.settle.result c.make-refusal.ensures.equation c.in-default.is c.settle.ensures.equation; rows = c.settle.ensures.rows; store = c.settle.ensures.store; lent = c.settle.ensures.lent }
+    record { equation = ran_settled (day_rules c.args.book) waiting (map span_numbers board.rows.now) (length board.store.now) c.make-refusal.result.1 _ _ c.settle.result c.make-refusal.ensures.equation c.in_default.is c.settle.ensures.equation; rows = c.settle.ensures.rows; store = c.settle.ensures.store; lent = c.settle.ensures.lent }
