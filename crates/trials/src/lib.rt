@@ -1,6 +1,8 @@
-// Tests over the layers: settling, marks, refusals and sheets.
+// Tests over the layers: settling, marks, copies, refusals and sheets.
 #![tactic(auto)]
 
+#[cfg(test)]
+mod copies;
 #[cfg(test)]
 mod examples;
 #[cfg(test)]
