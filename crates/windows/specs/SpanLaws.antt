@@ -1,8 +1,9 @@
 -- The span kind: what its windows are, and what its calls give.
 use Rattle.std.proofs.Common.{◌≡◌, ℕ, zero, suc, ◌≤◌, Bool, true, false, cond, ◌&&◌, eqb, ◌⊎◌, List, [], ◌∷◌, length, ℤ, pos, negsuc, ◌+ℤ◌, ◌-ℤ◌, ◌≤ℤ◌, ◌<ℤ◌, Some, None, sym, refl, ap, ◌∙◌, subst, ap₂, inl, inr, arith, w32, SFits, to_z, of_z}
 use Rattle.std.specs.Int.{int_min, int_max}
+use Rattle.std.specs.Ordering.{int_eq}
 use Rattle.std.proofs.lemmas.Int.{ints, to_z-of_z}
-use Rattle.std.proofs.lemmas.Bool.Decides.{nat_tests}
+use Rattle.std.proofs.lemmas.Bool.Decides.{nat_tests, Decides-int_eq, same_from_decides}
 use Rattle.windows.specs.Sets.{eq_z, has, In, Within, up_from, count, range, hull, meet, remove, sole_of, same_set}
 use Rattle.windows.specs.Kinds.{Of, Proper, all_but, spans}
 use Rattle.windows.specs.Rows.{Stands, Checked, span_stands, span_numbers}
@@ -192,9 +193,13 @@ fits_lo lo hi s = omega (arith, ints)
 pub fits_hi : (lo hi : ℤ) → Stands lo hi → SFits w32 hi
 fits_hi lo hi s = omega (arith, ints)
 
-pub alike_is : (a b c d : ℤ) → Stands a b → Stands c d → same_set (range a b) (range c d) ≡ (eqb (of_z w32 a) (of_z w32 c) && eqb (of_z w32 b) (of_z w32 d))
+-- the library's equality is that of the definitions
+pub eq_is : (a b : ℤ) → int_eq a b ≡ eq_z a b
+eq_is a b = same_from_decides (int_eq a b) (eq_z a b) (Decides-int_eq a b) ((λ e. grind (arith, tests)), (λ e. grind (arith, tests)))
+
+pub alike_is : (a b c d : ℤ) → Stands a b → Stands c d → same_set (range a b) (range c d) ≡ (int_eq a c && int_eq b d)
 alike_is a b c d s t =
-    let e = bits_same a c (fits_lo a b s) (fits_lo c d t) in
-    let f = bits_same b d (fits_hi a b s) (fits_hi c d t) in
+    let e = eq_is a c in
+    let f = eq_is b d in
     let g = same_range a b c d s.0 t.0 in
     cc

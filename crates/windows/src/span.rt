@@ -1,6 +1,6 @@
 // The span kind: all whole numbers from one to another.
 ghost use Rattle.std.specs.Prelude.{◌≡◌, [], length, pos, negsuc, ◌+ℤ◌, ◌≤ℤ◌, if◌then◌else◌, MatchOption, FitsSigned};
-ghost use Rattle.std.specs.Int.{w32};
+ghost use Rattle.std.specs.Int.{w32, int_min, int_max};
 ghost use Rattle.windows.specs.Sets.{eq_z, range, sole_of};
 ghost use Rattle.windows.specs.Kinds.{spans};
 ghost use Rattle.windows.specs.Rows.{Stands, Checked, span_numbers};
@@ -30,7 +30,7 @@ impl SpanRow {
 }
 
 // All numbers from lo to hi.
-#[derive(Clone, Copy)]
+#[derive(Clone, Copy, PartialEq)]
 pub struct Span {
     lo: i32,
     hi: i32,
@@ -46,6 +46,28 @@ fn moved(end: i32, v: i32, by: i32) -> i32
 }
 
 impl Span {
+    // Its lowest and its highest number.
+    pub fn ends(&self) -> (i32, i32)
+        ensures { result ≡ (self.now.lo, self.now.hi) }
+    {
+        (self.lo, self.hi)
+    }
+
+    // The span of its numbers from `from` to `to`, or none where it has none there.
+    pub fn clipped(&self, from: i64, to: i64) -> Option<Span>
+        ensures { let s = range (int_max self.now.lo from) (int_min self.now.hi to) in MatchOption result (s ≡ []) (λ w. range w.lo w.hi ≡ s) }
+    {
+        let lo = i64::from(self.lo).max(from);
+        let hi = i64::from(self.hi).min(to);
+        if lo > hi {
+            return None;
+        }
+        Some(Span {
+            lo: lo as i32,
+            hi: hi as i32,
+        })
+    }
+
     // The span from lo to hi, or none where hi is below lo.
     fn from_ends(lo: i32, hi: i32) -> Option<Span>
         requires { (negsuc 999999 ≤ℤ lo) × (hi ≤ℤ pos 1000000) }
@@ -57,22 +79,6 @@ impl Span {
             None
         }
     }
-}
-
-// How many numbers there are from lo to hi.
-fn count(lo: i32, hi: i32) -> u32
-    requires { Stands lo hi }
-    ensures { result ≡ length (range lo hi) }
-{
-    (hi - lo + 1) as u32
-}
-
-// The one number from lo to hi, or none if there are more.
-fn only(lo: i32, hi: i32) -> Option<i32>
-    requires { Stands lo hi }
-    ensures { result ≡ sole_of (range lo hi) }
-{
-    if lo == hi { Some(lo) } else { None }
 }
 
 impl Window for Span {
@@ -119,14 +125,18 @@ impl Window for Span {
     }
 
     fn sole(&self) -> Option<i32> {
-        only(self.lo, self.hi)
+        if self.lo == self.hi {
+            Some(self.lo)
+        } else {
+            None
+        }
     }
 
     fn size(&self) -> u32 {
-        count(self.lo, self.hi)
+        (self.hi - self.lo + 1) as u32
     }
 
     fn alike(&self, other: &Span) -> bool {
-        self.lo == other.lo && self.hi == other.hi
+        self == other
     }
 }
