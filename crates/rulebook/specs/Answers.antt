@@ -2,8 +2,7 @@
 use Rattle.std.specs.Prelude.{◌≡◌, ℕ, zero, suc, ◌/◌, ◌%◌, ◌^◌, Bool, false, cond, ◌&&◌, ◌||◌, List, [], ◌∷◌, ◌++◌, length, get_or, Some, None, Ok, Err, Option, Result, ◌==◌, nat_lt, slice_index_or}
 use Rattle.rulebook.specs.Tables.{Table, differs, all_filled}
 use Rattle.rulebook.specs.Rules.{Rule, Outcome, narrowed, emptied, missing}
-use Rattle.rulebook.specs.declared.answer.Narrowing.{Narrowing}
-use Rattle.rulebook.specs.declared.answer.Narrowing.TheVariants.{Changed, Emptied}
+use Rattle.rulebook.specs.declared.answer.Emptied.{Emptied}
 use Rattle.rulebook.specs.declared.answer.BookRefusal.{BookRefusal}
 use Rattle.rulebook.specs.declared.answer.BookRefusal.TheVariants as refusal
 use Rattle.rulebook.specs.declared.set.WindowSet.{WindowSet}
@@ -30,18 +29,22 @@ member s j = nat_lt j 64 && bit s.mask j
 abbrev pub outcome : Rule → Table → Outcome
 outcome r T = cond (all_filled T) (r.narrow T) (narrowed T)
 
+-- what a narrowing answers: the set of changed windows, maybe none, or the lowest window that it would have emptied
+abbrev pub Narrowing : Type 0
+Narrowing = Result WindowSet Emptied
+
 -- A narrowing of table T with this outcome gave the answer and left table U: the windows of U that are new are exactly those
 -- of the answered set, and Emptied names the lowest window that lost all its numbers and changes nothing.
 abbrev pub Tells : Table → Outcome → Narrowing → Table → Type 0
-Tells T (narrowed V) (Changed s) U = (U ≡ V) × ((j : ℕ) → member s j ≡ differs T U j)
-Tells T (narrowed V) (Emptied k) U = ⊥
-Tells T (emptied j) (Changed s) U = ⊥
-Tells T (emptied j) (Emptied k) U = (k ≡ j) × (U ≡ T)
+Tells T (narrowed V) (Ok s) U = (U ≡ V) × ((j : ℕ) → member s j ≡ differs T U j)
+Tells T (narrowed V) (Err e) U = ⊥
+Tells T (emptied j) (Ok s) U = ⊥
+Tells T (emptied j) (Err e) U = (e.window ≡ j) × (U ≡ T)
 
 -- the rows of windows that did not change are the very same
 abbrev pub RowsKept : {Row : Type 0} → Narrowing → List Row → List Row → Type 0
-RowsKept {Row} (Changed s) old new = (j : ℕ) (d : Row) → member s j ≡ false → slice_index_or new j d ≡ slice_index_or old j d
-RowsKept {Row} (Emptied k) old new = new ≡ old
+RowsKept {Row} (Ok s) old new = (j : ℕ) (d : Row) → member s j ≡ false → slice_index_or new j d ≡ slice_index_or old j d
+RowsKept {Row} (Err e) old new = new ≡ old
 
 -- what a posting answers, and the rules after it: the new rule's number, at the end, or the refusal and nothing new
 pub record Posted : Type 0 where

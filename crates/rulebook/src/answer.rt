@@ -2,32 +2,29 @@
 ghost use Rattle.std.specs.Prelude.{◌≡◌};
 ghost use Rattle.rulebook.specs.Answers.{book_number};
 
-use crate::set::WindowSet;
-
-// What a narrowing did: it changed these windows, maybe none, or it would have emptied one, the lowest of which it names.
-#[derive(Clone, Copy)]
-pub enum Narrowing {
-    Changed(WindowSet),
-    Emptied(usize),
+// A narrowing would have emptied a window, and changed nothing; this is the lowest such window.
+#[derive(Clone, Copy, PartialEq, Debug)]
+pub struct Emptied {
+    pub window: usize,
 }
 
-// Why a book refuses a rule, or a row is no window.
+// Why a book refuses a rule, or a row is no window, each with the number that it is told by.
 #[derive(Clone, Copy, PartialEq, Debug)]
 pub enum BookRefusal {
     // the book holds 64 rules
-    Full,
+    Full = 4,
     // a sum has no term, or too many
-    Terms,
+    Terms = 5,
     // a window number is not in the table
-    Window,
+    Window = 6,
     // a window number stands twice
-    Repeated,
+    Repeated = 7,
     // a weight is 0, or beyond 10,000
-    Weight,
+    Weight = 8,
     // a bound or a distance is out of range
-    Bound,
+    Bound = 9,
     // a row is no window
-    Row,
+    Row = 10,
 }
 
 impl BookRefusal {
@@ -35,14 +32,6 @@ impl BookRefusal {
     pub fn number(&self) -> u8
         ensures { result ≡ book_number self.now }
     {
-        match self {
-            BookRefusal::Full => 4,
-            BookRefusal::Terms => 5,
-            BookRefusal::Window => 6,
-            BookRefusal::Repeated => 7,
-            BookRefusal::Weight => 8,
-            BookRefusal::Bound => 9,
-            BookRefusal::Row => 10,
-        }
+        *self as u8
     }
 }

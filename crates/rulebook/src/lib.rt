@@ -2,9 +2,11 @@
 #![tactic(auto)]
 
 mod answer;
+mod rows;
 mod rulebook;
 mod set;
 
-pub use answer::{BookRefusal, Narrowing};
+pub use answer::{BookRefusal, Emptied};
+pub use rows::{all_windows, window_at};
 pub use rulebook::RuleBook;
 pub use set::WindowSet;

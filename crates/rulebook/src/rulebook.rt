@@ -5,7 +5,8 @@ ghost use Rattle.rulebook.specs.Rules.{Rule, Lawful, missing};
 ghost use Rattle.rulebook.specs.Answers.{outcome, Tells, RowsKept, posted, reach_of};
 ghost use Rattle.rulebook.specs.declared.answer.BookRefusal.{BookRefusal as Refusal};
 
-use crate::answer::{BookRefusal, Narrowing};
+use crate::answer::{BookRefusal, Emptied};
+use crate::set::WindowSet;
 use windows::Window;
 
 pub trait RuleBook {
@@ -39,9 +40,13 @@ pub trait RuleBook {
     fn reads(&self, i: usize, j: usize) -> bool
         ensures { result ≡ (get_or (rules self.now) i missing).reads j };
 
-    // Narrows the rows by rule i. A missing rule, one that reads beyond the rows, and rows of which one fails its check
+    // Narrows the rows by rule i and answers which windows changed, or the lowest one that would have been emptied. A missing rule, one that reads beyond the rows, and rows of which one fails its check
     // change nothing.
-    fn narrow(&self, i: usize, rows: &mut [<Self::Kind as Window>::Row]) -> Narrowing
+    fn narrow(
+        &self,
+        i: usize,
+        rows: &mut [<Self::Kind as Window>::Row],
+    ) -> Result<WindowSet, Emptied>
         ensures equation { Tells (map Self.Kind.Window.stands rows.old) (outcome (slice_index_or (rules self.now) i missing) (map Self.Kind.Window.stands rows.old)) result (map Self.Kind.Window.stands rows.new) }
         ensures rows { RowsKept result rows.old rows.new };
 
