@@ -1,15 +1,16 @@
 -- New windows written one by one: which window is the lowest emptied, and which windows change.
-use Rattle.std.proofs.Common.{◌≡◌, ℕ, zero, suc, ◌+◌, ◌<◌, ◌≤◌, Bool, true, false, cond, not, ◌&&◌, ◌||◌, eqb, ltb, ◌⊎◌, List, [], ◌∷◌, ◌++◌, map, length, get_or, take, drop, set, ℤ, is_some, Some, None, Option, sym, refl, ap, ◌∙◌, subst, ap₂, inl, inr, arith, MatchOption}
-use Rattle.std.specs.List.{AllByRecursion as All}
-use Rattle.std.proofs.lemmas.List.{get_or_past, get_or-set_same, get_or-set_other, length-set, length-map, set_past, length-take, length-take-le, drop_more, drop_all, get_or-map, get_or-take, take_more_set, map-append, map-set, set-get_or, at_drop_more, at_drop_all}
+use Rattle.std.proofs.Common.{◌≡◌, ℕ, zero, suc, ◌+◌, ◌<◌, ◌≤◌, Bool, true, false, cond, not, ◌==◌, ◌&&◌, ◌||◌, eqb, ltb, ◌⊎◌, List, [], ◌∷◌, ◌++◌, map, length, get_or, drop, set, ℤ, is_some, Some, None, Ok, Err, Option, sym, refl, ap, ◌∙◌, subst, ap₂, inl, inr, arith, MatchOption}
+use Rattle.std.specs.List.{AllByRecursion as All, list_any}
+use Rattle.std.proofs.lemmas.List.{get_or_past, get_or-set_same, get_or-set_other, length-set, length-map, set_past, drop_more, drop_all, get_or-map, map-append, map-set, set-get_or, at_drop_more}
 use Rattle.std.proofs.lemmas.Bool.Decides.{nat_tests, eqb_tells}
 use Rattle.windows.specs.Sets.{same_set}
 use Rattle.windows.specs.SpanLaws.{same_set_self, same_set_is}
 use Rattle.rulebook.specs.Tables.{Table, window, differs, filled, all_filled}
 use Rattle.rulebook.specs.Rules.{narrowed, emptied}
 use Rattle.rulebook.specs.Answers.{member, outcome, Tells}
-use Rattle.rulebook.specs.declared.answer.Narrowing.TheVariants.{Changed, Emptied}
 use Rattle.rulebook.specs.declared.set.WindowSet.{WindowSet}
+use Rattle.bounded.specs.Lists.{Pushed}
+use Rattle.bounded.specs.Lists as bounded
 use Rattle.rules.specs.Pointwise.{empty_at, judged, narrow_by, Pointwise, rule_of, Entry, has_entry, distinct, replaced, written}
 use Rattle.rules.specs.declared.new_windows.NewWindow.{NewWindow}
 use Rattle.rules.specs.Writing.{numbers_of, entry, listed, near, pushed, lowest_emptied, OthersKept}
@@ -177,21 +178,13 @@ module _ {Row : Type 0} (stands : Row → List ℤ) (rows0 rows rows' : List Row
 
 -- ---- the list of new windows
 module _ {W : Type 0} (numbers : W → List ℤ) where
-  pub listed_length : (items : List (NewWindow W)) (len : ℕ) → len ≤ length items → length (listed numbers items len) ≡ len
-  listed_length items len h = length-map (take len items) (entry numbers) ∙ length-take-le len items h
-
   -- the next one and those after it
-  pub listed_next : (items : List (NewWindow W)) (len i : ℕ) (x : NewWindow W) → i < len → len ≤ length items → drop i (listed numbers items len) ≡ entry numbers (get_or items i x) ∷ drop (i + 1) (listed numbers items len)
-  listed_next items len i x h l =
-      let n = listed_length items len l in
-      let k = length-take-le len items l in
-      drop_more (listed numbers items len) i (entry numbers x) (omega arith) ∙ ap (λ y. y ∷ drop (i + 1) (listed numbers items len)) (get_or-map (entry numbers) (take len items) i x (entry numbers x) (omega arith) ∙ ap (entry numbers) (get_or-take len items i x h))
+  pub listed_next : (items : List (NewWindow W)) (i : ℕ) (x : NewWindow W) → i < length items → x ≡ get_or items i x → drop i (listed numbers items) ≡ entry numbers x ∷ drop (i + 1) (listed numbers items)
+  listed_next items i x h q =
+      drop_more (listed numbers items) i (entry numbers x) (omega (arith, length-map items (entry numbers))) ∙ ap (λ y. y ∷ drop (i + 1) (listed numbers items)) (get_or-map (entry numbers) items i x (entry numbers x) h ∙ ap (entry numbers) (sym q))
 
-  pub listed_none : (items : List (NewWindow W)) (len i : ℕ) → len ≤ i → drop i (listed numbers items len) ≡ []
-  listed_none items len i h = drop_all i (listed numbers items len) (omega (arith, length-map (take len items) (entry numbers), length-take len items))
-
-  pub listed_push : (items : List (NewWindow W)) (len : ℕ) (x : NewWindow W) → len < length items → listed numbers (set items len x) (len + 1) ≡ listed numbers items len ++ (entry numbers x ∷ [])
-  listed_push items len x h = ap (map (entry numbers)) (take_more_set items len x h) ∙ map-append (entry numbers) (take len items) (x ∷ [])
+  pub listed_none : (items : List (NewWindow W)) (i : ℕ) → length items ≤ i → drop i (listed numbers items) ≡ []
+  listed_none items i h = drop_all i (listed numbers items) (omega (arith, length-map items (entry numbers)))
 
   -- whatever the numbers are
   pub has_any : (xs : List (NewWindow W)) (j : ℕ) → has_entry (map (entry numbers) xs) j ≡ has_entry (map (entry (λ _. [])) xs) j
@@ -257,39 +250,19 @@ none_differs [] h = absurd (omega arith)
 none_differs (v ∷ s) h = refl
 
 -- ---- the answer
-pub tells_none : (T : Table) (es : List Entry) (s : WindowSet) → all_filled T ≡ false → ((j : ℕ) → member s j ≡ false) → Tells T (written T es) (Changed s) T
+pub tells_none : (T : Table) (es : List Entry) (s : WindowSet) → all_filled T ≡ false → ((j : ℕ) → member s j ≡ false) → Tells T (written T es) (Ok s) T
 tells_none T es s a z = rw a (refl, λ j. z j ∙ sym (same_window T j))
 
-pub tells_lost : (T : Table) (es : List Entry) (k : ℕ) → all_filled T ≡ true → distinct es ≡ true → k ≡ lowest_emptied (length T) es → k < length T → Tells T (written T es) (Emptied k) T
-tells_lost T es k a d e h = subst (λ o. Tells T o (Emptied k) T) (sym (written_lost T es a d (omega arith))) (e, refl)
+pub tells_lost : (T : Table) (es : List Entry) (k : ℕ) → all_filled T ≡ true → distinct es ≡ true → k ≡ lowest_emptied (length T) es → k < length T → Tells T (written T es) (Err (record { window = k })) T
+tells_lost T es k a d e h = subst (λ o. Tells T o (Err (record { window = k })) T) (sym (written_lost T es a d (omega arith))) (e, refl)
 
-pub tells_all : (T U : Table) (es : List Entry) (s : WindowSet) → all_filled T ≡ true → distinct es ≡ true → length T ≤ lowest_emptied (length T) es → U ≡ replaced T es → ((j : ℕ) → member s j ≡ differs T U j) → Tells T (written T es) (Changed s) U
-tells_all T U es s a d h e f = subst (λ o. Tells T o (Changed s) U) (sym (written_all T es a d h)) (e, f)
-
--- ---- the check of all rows
-pub fills_all : {Row : Type 0} (stands : Row → List ℤ) (rows : List Row) (i : ℕ) (all total : Bool) → length rows ≤ i → (all && all_filled (map stands (drop i rows))) ≡ total → all ≡ total
-fills_all stands rows i all total h e = let d = at_drop_all (λ l. all_filled (map stands l)) rows i h in grind arith
-
-pub fills_lost : (all all' here next rest total : Bool) → all' ≡ false → rest ≡ (here && next) → here ≡ false → (all && rest) ≡ total → (all' && next) ≡ total
-fills_lost all all' here next rest total a r h e = grind arith
-
-pub fills_kept : (all all' here next rest total : Bool) → all' ≡ all → rest ≡ (here && next) → here ≡ true → (all && rest) ≡ total → (all' && next) ≡ total
-fills_kept all all' here next rest total a r h e = grind arith
-
-pub row_none : {W : Type 0} (P : Type 0) (Q : W → Type 0) (o : Option W) → is_some o ≡ false → MatchOption o P Q → P
-row_none P Q None e h = h
-row_none P Q (Some w) e h = let z : ◌≡◌ {A = ℕ} 0 1 = cc in absurd (omega arith)
-
-pub row_some : {W : Type 0} (P : Type 0) (numbers : W → List ℤ) → ((w : W) → 0 < length (numbers w)) → (o : Option W) (s : List ℤ) → is_some o ≡ true → MatchOption o P (λ w. numbers w ≡ s) → filled s ≡ true
-row_some P numbers some None s e h = let z : ◌≡◌ {A = ℕ} 0 1 = cc in absurd (omega arith)
-row_some P numbers some (Some w) s e h = subst (λ t. filled t ≡ true) h (some_filled (numbers w) (some w))
+pub tells_all : (T U : Table) (es : List Entry) (s : WindowSet) → all_filled T ≡ true → distinct es ≡ true → length T ≤ lowest_emptied (length T) es → U ≡ replaced T es → ((j : ℕ) → member s j ≡ differs T U j) → Tells T (written T es) (Ok s) U
+tells_all T U es s a d h e f = subst (λ o. Tells T o (Ok s) U) (sym (written_all T es a d h)) (e, f)
 
 -- ---- the steps of the two searches
-pub has_here : (es : List Entry) (e : Entry) (rest : List Entry) (j : ℕ) (all : Bool) → es ≡ e ∷ rest → e.at ≡ j → has_entry es j ≡ all → true ≡ all
-has_here es e rest j all q h i = let t = eqb_tells e.at j in let x = ap (λ l. has_entry l j) q in grind arith
-
-pub has_later : (es : List Entry) (e : Entry) (rest : List Entry) (j : ℕ) (all : Bool) → es ≡ e ∷ rest → (e.at ≡ j → ⊥) → has_entry es j ≡ all → has_entry rest j ≡ all
-has_later es e rest j all q h i = let t = eqb_tells e.at j in let x = ap (λ l. has_entry l j) q in grind arith
+pub has_any_at : {W : Type 0} (numbers : W → List ℤ) (xs : List (NewWindow W)) (j : ℕ) → list_any (λ x. x.at == j) xs ≡ has_entry (listed numbers xs) j
+has_any_at numbers [] j = refl
+has_any_at numbers (x ∷ xs) j = ap (λ t. (x.at == j) || t) (has_any_at numbers xs j)
 
 pub lowest_more : (es : List Entry) (e : Entry) (rest : List Entry) (low low' all : ℕ) → es ≡ e ∷ rest → low' ≡ cond (not (filled e.new) && ltb e.at low) e.at low → lowest_emptied low es ≡ all → lowest_emptied low' rest ≡ all
 lowest_more es e rest low low' all q l i = ap (λ n. lowest_emptied n rest) l ∙ sym (ap (lowest_emptied low) q) ∙ i
@@ -308,33 +281,49 @@ pub lower_no : (f r : Bool) (at low low' : ℕ) → f ≡ not r → r ≡ false 
 lower_no f r at low low' e h q = let x : f ≡ true = grind arith in rw x q
 
 -- ---- one more new window
-module _ {W : Type 0} (numbers : W → List ℤ) (items : List (NewWindow W)) (len : ℕ) (x : NewWindow W) where
-  pub push_kept : len < length items → near (listed (λ _. []) items len) ≡ true → distinct (listed (λ _. []) items len) ≡ true → x.at < 64 → has_entry (listed numbers items len) x.at ≡ false → (near (listed (λ _. []) (set items len x) (len + 1)) ≡ true) × (distinct (listed (λ _. []) (set items len x) (len + 1)) ≡ true)
-  push_kept h n d a e =
-      let p = sym (listed_push (λ _. []) items len x h) in
-      (subst (λ l. near l ≡ true) p (near_push (listed (λ _. []) items len) (entry (λ _. []) x) n a), subst (λ l. distinct l ≡ true) p (distinct_push (listed (λ _. []) items len) (entry (λ _. []) x) d (sym (has_any numbers (take len items) x.at) ∙ e)))
+module _ {W : Type 0} (numbers : W → List ℤ) (xs ys : List (NewWindow W)) (x : NewWindow W) (a : Option ℕ) (q : bounded.pushed 8 xs x ≡ record { answer = a; after = ys }) where
+  -- it stands at the end, if there was room
+  after : (ys ≡ xs ++ (x ∷ [])) ⊎ (ys ≡ xs)
+  after = go (ltb (length xs) 8) (ap (λ p. p.after) q)
+    where
+      go : (b : Bool) → (cond {A = Pushed (NewWindow W)} b (record { answer = Some (length xs); after = xs ++ (x ∷ []) }) (record { answer = None; after = xs })).after ≡ ys → (ys ≡ xs ++ (x ∷ [])) ⊎ (ys ≡ xs)
+      go true e = inl (sym e)
+      go false e = inr (sym e)
 
-  pub push_yes : length items ≡ 8 → len < 8 → x.at < 64 → has_entry (listed numbers items len) x.at ≡ false → listed numbers (set items len x) (len + 1) ≡ pushed (listed numbers items len) (entry numbers x)
-  push_yes l h a e =
-      let n = listed_length numbers items len (omega arith) in
-      let t : (ltb (length (listed numbers items len)) 8 && (ltb x.at 64 && not (has_entry (listed numbers items len) x.at))) ≡ true = grind (arith, nat_tests) in
-      listed_push numbers items len x (omega arith) ∙ rw t refl
+  pub push_kept : near (listed (λ _. []) xs) ≡ true → distinct (listed (λ _. []) xs) ≡ true → x.at < 64 → has_entry (listed numbers xs) x.at ≡ false → (near (listed (λ _. []) ys) ≡ true) × (distinct (listed (λ _. []) ys) ≡ true)
+  push_kept n d l e = go after
+    where
+      last : listed (λ _. []) (xs ++ (x ∷ [])) ≡ listed (λ _. []) xs ++ (entry (λ _. []) x ∷ [])
+      last = map-append (entry (λ _. [])) xs (x ∷ [])
 
-  push_not : (ltb (length (listed numbers items len)) 8 && (ltb x.at 64 && not (has_entry (listed numbers items len) x.at))) ≡ false → listed numbers items len ≡ pushed (listed numbers items len) (entry numbers x)
+      go : (ys ≡ xs ++ (x ∷ [])) ⊎ (ys ≡ xs) → (near (listed (λ _. []) ys) ≡ true) × (distinct (listed (λ _. []) ys) ≡ true)
+      go (inl p) = rw (p, last) (near_push (listed (λ _. []) xs) (entry (λ _. []) x) n l, distinct_push (listed (λ _. []) xs) (entry (λ _. []) x) d (sym (has_any numbers xs x.at) ∙ e))
+      go (inr p) = rw p (n, d)
+
+  pub push_yes : x.at < 64 → has_entry (listed numbers xs) x.at ≡ false → listed numbers ys ≡ pushed (listed numbers xs) (entry numbers x)
+  push_yes l e = sym (ap (λ p. listed numbers p.after) q) ∙ go (ltb (length xs) 8) refl
+    where
+      go : (b : Bool) → ltb (length xs) 8 ≡ b → listed numbers (cond {A = Pushed (NewWindow W)} b (record { answer = Some (length xs); after = xs ++ (x ∷ []) }) (record { answer = None; after = xs })).after ≡ pushed (listed numbers xs) (entry numbers x)
+      go true t =
+          let n = length-map xs (entry numbers) in
+          let y : (ltb (length (listed numbers xs)) 8 && (ltb x.at 64 && not (has_entry (listed numbers xs) x.at))) ≡ true = grind (arith, nat_tests) in
+          map-append (entry numbers) xs (x ∷ []) ∙ rw y refl
+      go false t =
+          let n = length-map xs (entry numbers) in
+          let y : (ltb (length (listed numbers xs)) 8 && (ltb x.at 64 && not (has_entry (listed numbers xs) x.at))) ≡ false = grind (arith, nat_tests) in
+          rw y refl
+
+module _ {W : Type 0} (numbers : W → List ℤ) (xs : List (NewWindow W)) (x : NewWindow W) where
+  push_not : (ltb (length (listed numbers xs)) 8 && (ltb x.at 64 && not (has_entry (listed numbers xs) x.at))) ≡ false → listed numbers xs ≡ pushed (listed numbers xs) (entry numbers x)
   push_not t = rw t refl
 
-  pub push_full : length items ≡ 8 → len ≤ 8 → 8 ≤ len → listed numbers items len ≡ pushed (listed numbers items len) (entry numbers x)
-  push_full l f h =
-      let n = listed_length numbers items len (omega arith) in
-      push_not (grind (arith, nat_tests))
-
-  pub push_past : 64 ≤ x.at → listed numbers items len ≡ pushed (listed numbers items len) (entry numbers x)
+  pub push_past : 64 ≤ x.at → listed numbers xs ≡ pushed (listed numbers xs) (entry numbers x)
   push_past h =
       let t : ltb x.at 64 ≡ false = grind (arith, nat_tests) in
-      push_not (let b = ltb (length (listed numbers items len)) 8 in grind arith)
+      push_not (let b = ltb (length (listed numbers xs)) 8 in grind arith)
 
-  pub push_again : has_entry (listed numbers items len) x.at ≡ true → listed numbers items len ≡ pushed (listed numbers items len) (entry numbers x)
-  push_again h = push_not (grind arith)
+  pub push_again : has_entry (listed numbers xs) x.at ≡ true → listed numbers xs ≡ pushed (listed numbers xs) (entry numbers x)
+  push_again h = push_not (let b = ltb (length (listed numbers xs)) 8 in let c = ltb x.at 64 in grind arith)
 
 pub or_false : (b : Bool) → (b || false) ≡ b
 or_false true = refl

@@ -1,3 +1,5 @@
 pub mod Pointwise
 pub mod Writing
 pub mod Books
+pub mod BookLaws
+pub mod Made

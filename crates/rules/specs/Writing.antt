@@ -1,5 +1,5 @@
 -- New windows in a bounded list, and what writing them into a table comes to.
-use Rattle.std.specs.Prelude.{◌≡◌, ℕ, Bool, true, cond, not, ◌&&◌, List, [], ◌∷◌, ◌++◌, map, length, take, ℤ, Some, None, Option, ◌≢◌, nat_lt, slice_index_or}
+use Rattle.std.specs.Prelude.{◌≡◌, ℕ, Bool, true, cond, not, ◌&&◌, List, [], ◌∷◌, ◌++◌, map, length, ℤ, Some, None, Option, ◌≢◌, nat_lt, slice_index_or}
 use Rattle.rulebook.specs.Tables.{filled}
 use Rattle.rules.specs.Pointwise.{Entry, has_entry}
 use Rattle.rules.specs.declared.new_windows.NewWindow.{NewWindow}
@@ -12,9 +12,9 @@ numbers_of numbers (Some w) = numbers w
 abbrev pub entry : {W : Type 0} → (W → List ℤ) → NewWindow W → Entry
 entry numbers e = record { at = e.at; new = numbers_of numbers e.new }
 
--- the new windows that a list holds: its first `len` items
-abbrev pub listed : {W : Type 0} → (W → List ℤ) → List (NewWindow W) → ℕ → List Entry
-listed numbers items len = map (entry numbers) (take len items)
+-- the new windows of a list
+abbrev pub listed : {W : Type 0} → (W → List ℤ) → List (NewWindow W) → List Entry
+listed numbers items = map (entry numbers) items
 
 -- has each new window a number below 64
 abbrev pub near : List Entry → Bool

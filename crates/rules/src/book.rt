@@ -1,28 +1,29 @@
-// A book as a list of at most 64 rules: every call that the trait of a rulebook asks for, proved once for all types of rule.
-ghost use Rattle.std.specs.Prelude.{◌≡◌, ◌≤◌, ⊤, [], map, length, get_or, take, slice_index_or};
+// A book as a list of at most 64 rules: a rulebook, proved once for all types of rule.
+ghost use Rattle.std.specs.Prelude.{◌≡◌, ◌≤◌, ⊤, [], length, get_or, slice_index_or};
+ghost use Rattle.windows.specs.Kinds.{Of};
 ghost use Rattle.rulebook.specs.Rules.{missing};
-ghost use Rattle.rulebook.specs.Answers.{outcome, Tells, RowsKept, posted, any, reads_at, reach_of};
-ghost use Rattle.rules.specs.Books.{slot_rule, slot_rules, book_refuses};
+ghost use Rattle.rulebook.specs.Answers.{any, reads_at};
+ghost use Rattle.bounded.specs.Lists.{items};
+ghost use Rattle.rules.specs.Books.{slot_rule, book_rules, book_refuses};
+ghost use Rattle.rules.specs.BookLaws.{book_lawful, book_few, book_near, accepted};
 
 use crate::rule::BookRule;
-use rulebook::{BookRefusal, Narrowing, WindowSet};
+use bounded::BoundedList;
+use rulebook::{BookRefusal, Emptied, RuleBook, WindowSet};
 use std::alloc::AllocError;
 use windows::Window;
 
 // A book holds at most so many rules.
 const FULL: usize = 64;
 
-// The rules of a book are in its first slots.
+// The rules of a book, in the order in which they were posted. Each slot of the list holds one; `None` fills the others.
 pub struct Book<R> {
-    slots: [Option<R>; FULL],
-    len: usize,
-    ghost whole: { length slots ≡ 64 },
-    ghost few: { len ≤ 64 },
+    rules: BoundedList<Option<R>, FULL>,
 }
 
 impl<R: Copy> Copy for Book<R> {}
 
-// A copy of a book is the book itself, and is made without an allocation.
+// A copy of a book is the book itself, and is made without an allocation. A derive would not say so.
 impl<R: Copy> Clone for Book<R> {
     ghost is_clone = { λ b c. c ≡ b };
 
@@ -33,56 +34,72 @@ impl<R: Copy> Clone for Book<R> {
     }
 }
 
+// Does the rule in a slot read window j?
+fn slot_reads<R: BookRule>(slot: Option<R>, j: usize) -> bool
+    ensures { result ≡ (slot_rule R.BookRule.rule slot).reads j }
+{
+    match slot {
+        Some(rule) => rule.reads(j),
+        None => false,
+    }
+}
+
 impl<R: BookRule> Book<R> {
     // A book with no rule.
     pub fn new() -> Book<R>
-        ensures { slot_rules R.BookRule.rule result.slots result.len ≡ [] }
+        ensures { book_rules R.BookRule.rule result ≡ [] }
     {
         Book {
-            slots: [None; FULL],
-            len: 0,
+            rules: BoundedList::new(),
         }
     }
 
     // Rule number i, none past the end.
     fn rule_at(&self, i: usize) -> Option<R>
-        ensures { slot_rule R.BookRule.rule result ≡ slice_index_or (slot_rules R.BookRule.rule self.now.slots self.now.len) i missing }
+        ensures { slot_rule R.BookRule.rule result ≡ slice_index_or (book_rules R.BookRule.rule self.now) i missing }
     {
-        if i < self.len { self.slots[i] } else { None }
+        *self.rules.as_slice().get(i)?
     }
 
     // Does some rule read window j?
     fn some_reads(&self, j: usize) -> bool
-        ensures { result ≡ any (reads_at (slot_rules R.BookRule.rule self.now.slots self.now.len) j) (length (slot_rules R.BookRule.rule self.now.slots self.now.len)) }
+        ensures { result ≡ any (reads_at (book_rules R.BookRule.rule self.now) j) (length (book_rules R.BookRule.rule self.now)) }
     {
-        for i in 0..self.len {
-            if self.reads(i, j) {
-                return true;
-            }
-        }
-        false
+        self.rules
+            .as_slice()
+            .iter()
+            .any(|slot| slot_reads::<R>(*slot, j))
+    }
+}
+
+impl<R: BookRule> RuleBook for Book<R> {
+    type Kind = R::Kind;
+
+    type Post = R::Post;
+
+    ghost sets = { Of R.Kind.Window.kind };
+
+    ghost rules = { λ b. book_rules R.BookRule.rule b };
+
+    ghost meaning = { R.BookRule.meaning };
+
+    ghost refuses = { λ b p n. book_refuses (length (items b.rules)) (R.BookRule.asks p n) };
+
+    ghost tied = { λ s. (λ h. h, λ h. h) };
+
+    ghost lawful = { λ b i h. book_lawful R.BookRule.rule (items b.rules) (Of R.Kind.Window.kind) R.BookRule.lawful i };
+
+    ghost few = { λ b. book_few R.BookRule.rule b.rules.slots b.rules.len b.rules.few };
+
+    ghost near = { λ b. book_near R.BookRule.rule (items b.rules) R.BookRule.near };
+
+    ghost within = { λ b p n j e h. R.BookRule.within p n j (accepted (length (items b.rules)) (R.BookRule.asks p n) e) h };
+
+    fn count(&self) -> usize {
+        self.rules.len()
     }
 
-    // How many of the first k rules there are.
-    fn count_to(&self, k: usize) -> usize
-        ensures few { result ≤ 64 }
-        ensures whole { 64 ≤ k → result ≡ length (slot_rules R.BookRule.rule self.now.slots self.now.len) }
-        ensures rules { slot_rules R.BookRule.rule self.now.slots result ≡ take k (slot_rules R.BookRule.rule self.now.slots self.now.len) }
-    {
-        if k < self.len { k } else { self.len }
-    }
-
-    // How many rules the book holds.
-    pub fn count(&self) -> usize
-        ensures { result ≡ length (slot_rules R.BookRule.rule self.now.slots self.now.len) }
-    {
-        self.count_to(FULL)
-    }
-
-    // One more than the highest window that a rule reads, 0 if none reads any.
-    pub fn reach(&self) -> usize
-        ensures { result ≡ reach_of (slot_rules R.BookRule.rule self.now.slots self.now.len) 64 }
-    {
+    fn reach(&self) -> usize {
         let mut reach = 0;
         for j in 0..64 {
             if self.some_reads(j) {
@@ -92,49 +109,30 @@ impl<R: BookRule> Book<R> {
         reach
     }
 
-    // Does rule i read window j?
-    pub fn reads(&self, i: usize, j: usize) -> bool
-        ensures { result ≡ (get_or (slot_rules R.BookRule.rule self.now.slots self.now.len) i missing).reads j }
-    {
-        match self.rule_at(i) {
-            Some(rule) => rule.reads(j),
-            None => false,
-        }
+    fn reads(&self, i: usize, j: usize) -> bool {
+        slot_reads::<R>(self.rule_at(i), j)
     }
 
-    // Narrows the rows by rule i; a missing rule changes nothing.
-    pub fn narrow(&self, i: usize, rows: &mut [<R::Kind as Window>::Row]) -> Narrowing
-        ensures equation { Tells (map R.Kind.Window.stands rows.old) (outcome (slice_index_or (slot_rules R.BookRule.rule self.now.slots self.now.len) i missing) (map R.Kind.Window.stands rows.old)) result (map R.Kind.Window.stands rows.new) }
-        ensures rows { RowsKept result rows.old rows.new }
-    {
+    fn narrow(
+        &self,
+        i: usize,
+        rows: &mut [<R::Kind as Window>::Row],
+    ) -> Result<WindowSet, Emptied> {
         match self.rule_at(i) {
             Some(rule) => rule.narrow(rows),
-            None => Narrowing::Changed(WindowSet::empty()),
+            None => Ok(WindowSet::empty()),
         }
     }
 
-    // Adds a rule for n windows at the end and answers its number, or refuses it.
-    pub fn post(&mut self, rule: R::Post, n: usize) -> Result<usize, BookRefusal>
-        ensures { posted (slot_rules R.BookRule.rule self.old.slots self.old.len) (R.BookRule.meaning rule) (book_refuses self.old.len (R.BookRule.asks rule n)) ≡ record { answer = result; after = slot_rules R.BookRule.rule self.new.slots self.new.len } }
-    {
-        if self.len >= FULL {
+    fn post(&mut self, rule: R::Post, n: usize) -> Result<usize, BookRefusal> {
+        if self.count() == FULL {
             return Err(BookRefusal::Full);
         }
-        let at = self.len;
-        match R::check(rule, n) {
-            Ok(checked) => {
-                self.slots[at] = Some(checked);
-                self.len = at + 1;
-                Ok(at)
-            }
-            Err(refusal) => Err(refusal),
-        }
+        let checked = R::check(rule, n)?;
+        self.rules.push(Some(checked)).ok_or(BookRefusal::Full)
     }
 
-    // Keeps the first k rules, or all if there are fewer.
-    pub fn shorten(&mut self, k: usize)
-        ensures { slot_rules R.BookRule.rule self.new.slots self.new.len ≡ take k (slot_rules R.BookRule.rule self.old.slots self.old.len) }
-    {
-        self.len = self.count_to(k);
+    fn shorten(&mut self, k: usize) {
+        self.rules.truncate(k);
     }
 }

@@ -6,5 +6,6 @@ mod new_windows;
 mod rule;
 
 pub use book::Book;
-pub use new_windows::{NewWindow, NewWindows, all_windows};
+pub use new_windows::{NewWindow, NewWindows};
 pub use rule::BookRule;
+pub use rulebook::all_windows;

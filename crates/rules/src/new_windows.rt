@@ -1,12 +1,13 @@
 // The new windows that a rule makes, and the one way in which they are written into the rows.
-ghost use Rattle.std.specs.Prelude.{◌≡◌, ℕ, ◌<◌, ◌≤◌, true, false, [], map, length, slice_set};
+ghost use Rattle.std.specs.Prelude.{◌≡◌, ℕ, ◌==◌, ◌<◌, true, false, not, [], map, length, slice_set, Some, None, MatchOption};
 ghost use Rattle.rulebook.specs.Tables.{differs, all_filled};
 ghost use Rattle.rulebook.specs.Answers.{member, Tells, RowsKept};
-ghost use Rattle.rulebook.specs.declared.answer.Narrowing.TheVariants.{Changed};
+ghost use Rattle.bounded.specs.Lists.{items};
 ghost use Rattle.rules.specs.Pointwise.{has_entry, distinct, replaced, written};
 ghost use Rattle.rules.specs.Writing.{numbers_of, listed, near, pushed, lowest_emptied, OthersKept};
 
-use rulebook::{Narrowing, WindowSet};
+use bounded::BoundedList;
+use rulebook::{Emptied, WindowSet, all_windows};
 use windows::Window;
 
 // A rule makes at most so many new windows.
@@ -19,28 +20,28 @@ pub struct NewWindow<W> {
     new: Option<W>,
 }
 
+// What fills the unused places of a list; a derive would ask the same of `W`.
+impl<W> Default for NewWindow<W> {
+    fn default() -> NewWindow<W> {
+        NewWindow { at: 0, new: None }
+    }
+}
+
+impl<W> NewWindow<W> {
+    // Is it for the place of window j?
+    fn is_at(&self, j: usize) -> bool
+        ensures { result ≡ (self.now.at == j) }
+    {
+        self.at == j
+    }
+}
+
 // New windows, at most one for each window.
 #[derive(Drop)]
 pub struct NewWindows<W> {
-    items: [NewWindow<W>; MOST],
-    len: usize,
-    ghost whole: { length items ≡ 8 },
-    ghost few: { len ≤ 8 },
-    ghost close: { near (listed (λ _. []) items len) ≡ true },
-    ghost apart: { distinct (listed (λ _. []) items len) ≡ true },
-}
-
-// Is every row a window?
-pub fn all_windows<W: Window>(rows: &[W::Row]) -> bool
-    ensures { result ≡ all_filled (map W.Window.stands rows.now) }
-{
-    let mut all = true;
-    for row in rows {
-        if W::from_row(*row).is_none() {
-            all = false;
-        }
-    }
-    all
+    list: BoundedList<NewWindow<W>, MOST>,
+    ghost close: { near (listed (λ _. []) (items list)) ≡ true },
+    ghost apart: { distinct (listed (λ _. []) (items list)) ≡ true },
 }
 
 // Puts a window in the place of row `at`, unless it stands there already or there is no such row; says whether it did.
@@ -63,84 +64,76 @@ fn put<W: Window>(rows: &mut [W::Row], at: usize, new: &W) -> bool
 }
 
 impl<W: Window> NewWindows<W> {
+    ghost use Rattle.rules.specs.Made.{made};
+
     // No new window yet.
     pub fn new() -> NewWindows<W>
-        ensures { listed W.Window.numbers result.items result.len ≡ [] }
+        ensures { made W.Window.numbers result ≡ [] }
     {
         NewWindows {
-            items: [NewWindow { at: 0, new: None }; MOST],
-            len: 0,
+            list: BoundedList::new(),
         }
     }
 
     // Is there a new window for number j?
     fn has(&self, j: usize) -> bool
-        ensures { result ≡ has_entry (listed W.Window.numbers self.now.items self.now.len) j }
+        ensures { result ≡ has_entry (made W.Window.numbers self.now) j }
     {
-        for k in 0..self.len {
-            if self.items[k].at == j {
-                return true;
-            }
-        }
-        false
+        self.list.as_slice().iter().any(|entry| entry.is_at(j))
     }
 
     // Adds a new window at the end, unless the list is full, the number is past 63 or has a new window already.
     pub fn push(&mut self, at: usize, new: Option<W>)
-        ensures { listed W.Window.numbers self.new.items self.new.len ≡ pushed (listed W.Window.numbers self.old.items self.old.len) (record { at = at; new = numbers_of W.Window.numbers new }) }
+        ensures { made W.Window.numbers self.new ≡ pushed (made W.Window.numbers self.old) (record { at = at; new = numbers_of W.Window.numbers new }) }
     {
-        if self.len < MOST && at < 64 && !self.has(at) {
-            self.items[self.len] = NewWindow { at, new };
-            self.len += 1;
+        if at < 64 && !self.has(at) {
+            let _ = self.list.push(NewWindow { at, new });
         }
     }
 
-    // The lowest window below n that would be emptied, n if there is none.
-    fn lowest_emptied(&self, n: usize) -> usize
-        ensures { result ≡ lowest_emptied n (listed W.Window.numbers self.now.items self.now.len) }
+    // The lowest window below n that would be emptied.
+    fn lowest_emptied(&self, n: usize) -> Option<usize>
+        ensures { MatchOption result (lowest_emptied n (made W.Window.numbers self.now) ≡ n) (λ k. (k < n) × (lowest_emptied n (made W.Window.numbers self.now) ≡ k)) }
     {
         let mut lowest = n;
-        for i in 0..self.len {
-            let item = self.items[i];
-            if item.new.is_none() && item.at < lowest {
-                lowest = item.at;
+        for entry in self.list.as_slice() {
+            if entry.new.is_none() && entry.at < lowest {
+                lowest = entry.at;
             }
         }
-        lowest
+        if lowest < n { Some(lowest) } else { None }
     }
 
     // Puts each new window in its place, and says which windows are others now.
     fn put_all(&self, rows: &mut [W::Row]) -> WindowSet
-        requires { lowest_emptied (length rows.old) (listed W.Window.numbers self.now.items self.now.len) ≡ length rows.old }
-        ensures table { map W.Window.stands rows.new ≡ replaced (map W.Window.stands rows.old) (listed W.Window.numbers self.now.items self.now.len) }
+        requires { lowest_emptied (length rows.old) (made W.Window.numbers self.now) ≡ length rows.old }
+        ensures table { map W.Window.stands rows.new ≡ replaced (map W.Window.stands rows.old) (made W.Window.numbers self.now) }
         ensures changed { (j : ℕ) → member result j ≡ differs (map W.Window.stands rows.old) (map W.Window.stands rows.new) j }
-        ensures rows { RowsKept (Changed result) rows.old rows.new }
+        ensures rows { RowsKept (Ok result) rows.old rows.new }
     {
         let mut changed = WindowSet::empty();
-        for i in 0..self.len {
-            let item = self.items[i];
-            if let Some(window) = item.new {
-                if put(rows, item.at, &window) {
-                    changed.add(item.at);
+        for entry in self.list.as_slice() {
+            if let Some(window) = entry.new {
+                if put(rows, entry.at, &window) {
+                    changed.add(entry.at);
                 }
             }
         }
         changed
     }
 
-    // Writes the new windows into the rows, or names the lowest window that would be emptied and changes nothing; so do rows
-    // of which one is no window.
-    pub fn write(&self, rows: &mut [W::Row]) -> Narrowing
-        ensures equation { Tells (map W.Window.stands rows.old) (written (map W.Window.stands rows.old) (listed W.Window.numbers self.now.items self.now.len)) result (map W.Window.stands rows.new) }
+    // Writes the new windows into the rows and answers which changed, or names the lowest window that would be emptied and
+    // changes nothing; rows of which one is no window stay as they are.
+    pub fn write(&self, rows: &mut [W::Row]) -> Result<WindowSet, Emptied>
+        ensures equation { Tells (map W.Window.stands rows.old) (written (map W.Window.stands rows.old) (made W.Window.numbers self.now)) result (map W.Window.stands rows.new) }
         ensures rows { RowsKept result rows.old rows.new }
     {
         if !all_windows::<W>(rows) {
-            return Narrowing::Changed(WindowSet::empty());
+            return Ok(WindowSet::empty());
         }
-        let lowest = self.lowest_emptied(rows.len());
-        if lowest < rows.len() {
-            return Narrowing::Emptied(lowest);
+        match self.lowest_emptied(rows.len()) {
+            Some(window) => Err(Emptied { window }),
+            None => Ok(self.put_all(rows)),
         }
-        Narrowing::Changed(self.put_all(rows))
     }
 }

@@ -5,7 +5,7 @@ ghost use Rattle.rulebook.specs.Rules.{Rule, Lawful};
 ghost use Rattle.rulebook.specs.Answers.{outcome, Tells, RowsKept};
 ghost use Rattle.rulebook.specs.declared.answer.BookRefusal.{BookRefusal as Refusal};
 
-use rulebook::{BookRefusal, Narrowing};
+use rulebook::{BookRefusal, Emptied, WindowSet};
 use windows::Window;
 
 // A rule that has passed its questions and keeps the four laws.
@@ -34,7 +34,7 @@ pub trait BookRule: Copy {
         ensures { result ≡ (rule self.now).reads j };
 
     // Narrows the rows. A rule that reads beyond the rows, and rows of which one fails its check change nothing.
-    fn narrow(&self, rows: &mut [<Self::Kind as Window>::Row]) -> Narrowing
+    fn narrow(&self, rows: &mut [<Self::Kind as Window>::Row]) -> Result<WindowSet, Emptied>
         ensures equation { Tells (map Self.Kind.Window.stands rows.old) (outcome (rule self.now) (map Self.Kind.Window.stands rows.old)) result (map Self.Kind.Window.stands rows.new) }
         ensures rows { RowsKept result rows.old rows.new };
 
