@@ -1,29 +1,68 @@
 -- A line more, and the last one.
-use Rattle.std.proofs.Common.{◌≡◌, ℕ, zero, suc, ◌+◌, ◌-◌, ◌<◌, ◌≤◌, ◌⊎◌, List, [], ◌∷◌, length, get_or, drop, sym, refl, ap, ◌∙◌, inl, inr, arith}
-use Rattle.std.proofs.lemmas.List.{drop_more, drop_all}
+use Rattle.std.proofs.Common.{◌≡◌, ℕ, zero, suc, ◌+◌, ◌<◌, ◌⊎◌, List, [], ◌∷◌, length, Option, Some, None, Bor, sym, refl, ap, ◌∙◌, subst, inl, inr, arith}
+use Rattle.std.specs.declared.iter.Enumerate.{Enumerate}
+use Rattle.std.specs.declared.iter.Take.{Take}
+use Rattle.std.specs.declared.iter.Zip.{Zip}
+use Rattle.std.specs.declared.slice.Iter.{Iter}
+use Rattle.std.specs.Iterator.Adapters.{enumerate_source, enumerate_count, enumerate_steps, take_source, take_count, take_steps, zip_first, zip_second}
+use Rattle.std.specs.Slice.Iter.{iter_rest}
+use Rattle.std.proofs.iter.Yields.{fronts}
+use Rattle.std.proofs.lemmas.Iterator.{zips}
+use Rattle.std.proofs.lemmas.Slice.Zip.{Zip-more, either_empty_from_Zip}
 use Rattle.listing.specs.Lines.{Look, line, lines}
 
--- what is left gives the rest
-pub lines_more : {R : Type 0} (k : Look R) (w v : List ℕ) (i : ℕ) (ps qs : List R) (p q : R) → i < 64 → i < length ps → i < length qs → p ≡ get_or ps i p → q ≡ get_or qs i q → v ≡ line k w i p q → lines k v (64 - (i + 1)) (i + 1) (drop (i + 1) ps) (drop (i + 1) qs) ≡ lines k w (64 - i) i (drop i ps) (drop i qs)
-lines_more k w v i ps qs p q m h j a b e =
-    let n : suc (64 - (i + 1)) ≡ 64 - i = omega arith in
-    ap (λ u. lines k u (64 - (i + 1)) (i + 1) (drop (i + 1) ps) (drop (i + 1) qs)) e
-    ∙ ap (λ x. lines k w (suc (64 - (i + 1))) i (x ∷ drop (i + 1) ps) (q ∷ drop (i + 1) qs)) a
-    ∙ ap (λ x. lines k w (suc (64 - (i + 1))) i (get_or ps i p ∷ drop (i + 1) ps) (x ∷ drop (i + 1) qs)) b
-    ∙ ap (λ l. lines k w (suc (64 - (i + 1))) i l (get_or qs i q ∷ drop (i + 1) qs)) (sym (drop_more ps i p h))
-    ∙ ap (λ l. lines k w (suc (64 - (i + 1))) i (drop i ps) l) (sym (drop_more qs i q j))
-    ∙ ap (λ r. lines k w r i (drop i ps) (drop i qs)) n
+-- a loop over the pairs of two lists, so many at most, each with its number
+abbrev pub Turns : Type 0 → Type 0
+Turns R = Enumerate (Take (Zip (Iter R) (Iter R)))
 
-none_left : {R : Type 0} (k : Look R) (w : List ℕ) (n i : ℕ) (ps : List R) → lines k w n i ps [] ≡ w
-none_left k w zero i ps = refl
-none_left k w (suc n) i [] = refl
-none_left k w (suc n) i (p ∷ ps) = refl
+abbrev pub turns : {R : Type 0} → Turns R → Option (ℕ × (Bor R × Bor R)) → Turns R → Type 0
+turns = enumerate_steps (take_steps (zips fronts fronts))
 
-none_first : {R : Type 0} (k : Look R) (w : List ℕ) (n i : ℕ) (qs : List R) → lines k w n i [] qs ≡ w
-none_first k w zero i qs = refl
-none_first k w (suc n) i qs = refl
+-- the number of the next turn, and how many there are at most
+abbrev pub turn : {R : Type 0} → Turns R → ℕ
+turn s = enumerate_count s
 
--- no window is left, or none that the sheet gave
-pub lines_all : {R : Type 0} (k : Look R) (w : List ℕ) (n i : ℕ) (ps qs : List R) → (length ps ≤ i) ⊎ (length qs ≤ i) → lines k w n i (drop i ps) (drop i qs) ≡ w
-lines_all k w n i ps qs (inl h) = ap (λ l. lines k w n i l (drop i qs)) (drop_all i ps h) ∙ none_first k w n i (drop i qs)
-lines_all k w n i ps qs (inr h) = ap (λ l. lines k w n i (drop i ps) l) (drop_all i qs h) ∙ none_left k w n i (drop i ps)
+abbrev pub most : {R : Type 0} → Turns R → ℕ
+most s = take_count (enumerate_source s)
+
+abbrev pub pairs : {R : Type 0} → Turns R → Zip (Iter R) (Iter R)
+pairs s = take_source (enumerate_source s)
+
+-- w, and the lines of the pairs that are left
+abbrev pub left : {R : Type 0} → Look R → List ℕ → Turns R → List ℕ
+left k w s = lines k w (most s) (turn s) (iter_rest (zip_first (pairs s))) (iter_rest (zip_second (pairs s)))
+
+-- before the first turn all are left
+pub left_first : {R : Type 0} (n : ℕ) (ps qs : List R) (s e : Turns R) (m : Take (Zip (Iter R) (Iter R))) (z : Zip (Iter R) (Iter R)) → s ≡ e → enumerate_source e ≡ m → enumerate_count e ≡ 0 → take_source m ≡ z → take_count m ≡ n → iter_rest (zip_first z) ≡ ps → iter_rest (zip_second z) ≡ qs → (turn s ≡ 0) × (most s ≡ n) × ((k : Look R) (w : List ℕ) → left k w s ≡ lines k w n 0 ps qs)
+left_first n ps qs s e m z a b c d f g h =
+    let i : turn s ≡ 0 = ap turn a ∙ c in
+    let l : most s ≡ n = ap most a ∙ ap take_count b ∙ f in
+    let o : pairs s ≡ z = ap pairs a ∙ ap take_source b ∙ d in
+    (i, l, λ k w. rw (l, i, o, g, h) refl)
+
+module _ {R : Type 0} (s t : Turns R) (r : Option (ℕ × (Bor R × Bor R))) where
+  pub counted : (i : ℕ) (p q : Bor R) → r ≡ Some (i, (p, q)) → turns s r t → (i ≡ turn s) × (turn t ≡ turn s + 1) × (most t + 1 ≡ most s)
+  counted i p q e h = let m = subst (λ o. turns s o t) e h in (m.1, m.2, m.0.1)
+
+  pub left_more : (k : Look R) (w v : List ℕ) (i : ℕ) (p q : Bor R) → r ≡ Some (i, (p, q)) → turns s r t → v ≡ line k w i p.now q.now → left k v t ≡ left k w s
+  left_more k w v i p q e h a =
+      let m = subst (λ o. turns s o t) e h in
+      let z = Zip-more (pairs s) (pairs t) (Some (p, q)) (p, q) refl m.0.0 in
+      let c = counted i p q e h in
+      let n : most s ≡ suc (most t) = omega arith in
+      let j : turn t ≡ turn s + 1 = c.1 in
+      rw (z.0, z.1, n, j, a, c.0) refl
+
+  pub left_none : (k : Look R) (w : List ℕ) → r ≡ None → turns s r t → w ≡ left k w s
+  left_none k w e h = sym (by (most s) refl)
+    where
+      none : (n : ℕ) (ps qs : List R) → (ps ≡ []) ⊎ (qs ≡ []) → lines k w n (turn s) ps qs ≡ w
+      none zero ps qs z = refl
+      none (suc n) [] qs z = refl
+      none (suc n) (p ∷ ps) [] z = refl
+      none (suc n) (p ∷ ps) (q ∷ qs) (inl z) = absurd (omega (arith, ap length z))
+      none (suc n) (p ∷ ps) (q ∷ qs) (inr z) = absurd (omega (arith, ap length z))
+
+      by : (n : ℕ) → most s ≡ n → left k w s ≡ w
+      by zero a = rw a refl
+      by (suc n) a = none (most s) _ _ (either_empty_from_Zip (pairs s) (pairs t) None refl ((subst (λ o. turns s o t) e h).0 (omega arith)))

@@ -1,17 +1,12 @@
 -- The listing, byte for byte.
-use Rattle.std.specs.Prelude.{ℕ, zero, suc, ◌+◌, Bool, cond, ◌&&◌, List, [], ◌∷◌, ◌++◌, length, take, drop, ℤ, Some, None, codes, decimal, Option, nat_le}
+use Rattle.std.specs.Prelude.{ℕ, zero, suc, ◌+◌, Bool, cond, ◌&&◌, List, [], ◌∷◌, ◌++◌, length, drop, ℤ, Some, None, codes, decimal, Option, nat_le}
 use Rattle.std.specs.Fmt.{signed_decimal}
 use Rattle.windows.specs.Sets.{eq_z}
 use Rattle.windows.specs.declared.span.SpanRow.{SpanRow}
 use Rattle.listing.specs.declared.shown.Fields.{Fields}
 use Rattle.listing.specs.declared.shown.Fields.TheVariants.{Ends}
-use Rattle.listing.specs.declared.text.Text.{Text}
 use Rattle.plan.specs.declared.answer.Verdict.{Verdict}
 use Rattle.plan.specs.declared.answer.Verdict.TheVariants.{Settled, Impossible}
-
--- what was written so far
-abbrev pub written : Text → List ℕ
-written t = take t.len t.bytes
 
 -- Each of the following says what stands written once a piece more is written behind w.
 

@@ -1,6 +1,5 @@
 // How the rows of a kind are shown.
 ghost use Rattle.std.specs.Prelude.{◌≡◌};
-ghost use Rattle.windows.specs.Sets.{eq_z};
 ghost use Rattle.listing.specs.Lines.{Look, span_look};
 
 use windows::SpanRow;
@@ -28,12 +27,6 @@ pub trait Shown: Copy {
         ensures { result ≡ look.one self.now };
 }
 
-fn same_number(a: i32, b: i32) -> bool
-    ensures { result ≡ eq_z a b }
-{
-    a == b
-}
-
 impl Shown for SpanRow {
     ghost look = { span_look };
 
@@ -42,10 +35,10 @@ impl Shown for SpanRow {
     }
 
     fn is_same(&self, other: &SpanRow) -> bool {
-        same_number(self.lo, other.lo) && same_number(self.hi, other.hi)
+        self == other
     }
 
     fn is_one(&self) -> bool {
-        same_number(self.lo, self.hi)
+        self.lo == self.hi
     }
 }
