@@ -1,5 +1,5 @@
 // One record of a sheet: its head, its kind, and its payload as a part of the input.
-ghost use Rattle.std.specs.Prelude.{◌≡◌, ◌+◌, ◌-◌, ◌≤◌, length, drop, IfSome, IfOk};
+ghost use Rattle.std.specs.Prelude.{◌≡◌, ◌+◌, ◌≤◌, length, IfSome, IfOk};
 ghost use Rattle.records.specs.Records.{front, seen, sorted, plainly, record_at, handed};
 
 use crate::refusal::SheetRefusal;
@@ -46,10 +46,8 @@ fn front(rest: &[u8]) -> Result<Option<(u16, &[u8])>, SheetRefusal>
         [a, b, c, d, rest @ ..] => {
             let len = u16::from_le_bytes([*a, *b]) as usize;
             let kind = u16::from_le_bytes([*c, *d]);
-            if rest.len() < len {
-                return Err(SheetRefusal::Payload);
-            }
-            Ok(Some((kind, &rest[0..len])))
+            let payload = rest.get(..len).ok_or(SheetRefusal::Payload)?;
+            Ok(Some((kind, payload)))
         }
         _ => Err(SheetRefusal::Head),
     }
@@ -80,17 +78,6 @@ fn sort(stage: Stage, kind: u16, payload: &[u8]) -> Result<Record<'_>, SheetRefu
     }
 }
 
-// What stands from `at` on.
-fn rest(bytes: &[u8], at: usize) -> &[u8]
-    ensures value { result.now ≡ drop at bytes.now }
-    ensures len { length result.now ≡ length bytes.now - at }
-{
-    if at > bytes.len() {
-        return &[];
-    }
-    &bytes[at..]
-}
-
 // The record at `at`, handed out with its place; none where no byte is left there.
 pub fn record_at<'a>(
     bytes: &'a [u8],
@@ -99,20 +86,15 @@ pub fn record_at<'a>(
 ) -> Result<Option<Placed<'a>>, SheetRefusal>
     ensures { handed result ≡ record_at bytes.now at stage }
 {
-    match front(rest(bytes, at)) {
-        Err(f) => Err(f),
-        Ok(None) => Ok(None),
-        Ok(Some((kind, payload))) => match sort(stage, kind, payload) {
-            Err(f) => Err(f),
-            Ok(record) => {
-                let next = at + 4 + payload.len();
-                Ok(Some(Placed {
-                    record,
-                    kind,
-                    at,
-                    next,
-                }))
-            }
-        },
-    }
+    let rest = bytes.get(at..).unwrap_or(&[]);
+    let Some((kind, payload)) = front(rest)? else {
+        return Ok(None);
+    };
+    let record = sort(stage, kind, payload)?;
+    Ok(Some(Placed {
+        record,
+        kind,
+        at,
+        next: at + 4 + payload.len(),
+    }))
 }

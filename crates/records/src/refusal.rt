@@ -5,21 +5,21 @@ ghost use Rattle.records.specs.Records.{sheet_number};
 #[derive(Clone, Copy, PartialEq, Debug)]
 pub enum SheetRefusal {
     // more than 61,440 bytes
-    Long,
+    Long = 20,
     // fewer than four head bytes are left
-    Head,
+    Head = 21,
     // the payload is cut off
-    Payload,
+    Payload = 22,
     // no such kind of record
-    Unknown,
+    Unknown = 23,
     // a record out of its place, or foreign to the sheet's kind
-    Place,
+    Place = 24,
     // a payload of the wrong length
-    Length,
+    Length = 25,
     // not all bytes were taken
-    Left,
+    Left = 26,
     // the listing does not fit
-    Room,
+    Room = 27,
 }
 
 impl SheetRefusal {
@@ -27,15 +27,6 @@ impl SheetRefusal {
     pub fn number(&self) -> u8
         ensures { result ≡ sheet_number self.now }
     {
-        match self {
-            SheetRefusal::Long => 20,
-            SheetRefusal::Head => 21,
-            SheetRefusal::Payload => 22,
-            SheetRefusal::Unknown => 23,
-            SheetRefusal::Place => 24,
-            SheetRefusal::Length => 25,
-            SheetRefusal::Left => 26,
-            SheetRefusal::Room => 27,
-        }
+        *self as u8
     }
 }
