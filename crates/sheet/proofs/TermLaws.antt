@@ -2,11 +2,15 @@
 use Rattle.std.proofs.Common.{◌≡◌, ℕ, ◌+◌, ◌-◌, ◌<◌, ◌≤◌, cond, leb, List, [], ◌∷◌, length, get_or, take, drop, set, ℤ, Some, None, Option, sym, refl, ap, ◌∙◌, add-one, arith, w32, SFits, to_z, of_z}
 use Rattle.std.proofs.lemmas.Int.{to_z-of_z}
 use Rattle.std.proofs.lemmas.Bool.{cond-true, le-leb}
+use Rattle.std.proofs.lemmas.Slice.{between_to_end}
 use Rattle.sums.specs.declared.posted.Term.{Term}
 use Rattle.sums.specs.declared.posted.PostedSum.{PostedSum}
 use Rattle.records.specs.Bytes.{int32}
-use Rattle.records.proofs.Cuts.{from_is}
 use Rattle.sheet.specs.Items.{terms, placed, posted_sum}
+
+-- what a slice pattern binds behind n bytes is all that follows them
+pub from_is : (s : List ℕ) (n : ℕ) → take (length s - n) (drop n s) ≡ drop n s
+from_is s n = between_to_end s n (length s) (omega arith)
 
 -- the first term of at least five bytes
 abbrev pub first : List ℕ → Term

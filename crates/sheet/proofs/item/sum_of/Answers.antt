@@ -1,8 +1,7 @@
 use Rattle.std.proofs.Common.{◌≤◌, length, replicate, pos, ap, ◌∙◌, w32, SFits, rules}
 use Rattle.std.proofs.lemmas.Int.{to_z-of_z}
-use Rattle.records.proofs.Cuts.{from_is}
 use Rattle.sheet.specs.Items.{terms, placed}
-use Rattle.sheet.proofs.TermLaws.{sum_is}
+use Rattle.sheet.proofs.TermLaws.{from_is, sum_is}
 use Rattle.sheet.proofs.item.sum_of.Goals as goal
 
 pub returns : goal.returns

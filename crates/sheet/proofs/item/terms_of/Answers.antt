@@ -1,8 +1,7 @@
 use Rattle.std.proofs.Common.{◌<◌, ◌≤◌, length, sym, refl, ap, ◌∙◌, arith, length-drop, length-set, w32, SFits, rules}
 use Rattle.std.proofs.lemmas.List.{set_past}
-use Rattle.records.proofs.Cuts.{from_is}
 use Rattle.sheet.specs.Items.{placed}
-use Rattle.sheet.proofs.TermLaws.{first, placed_more, count_more, term_is, terms_short}
+use Rattle.sheet.proofs.TermLaws.{from_is, first, placed_more, count_more, term_is, terms_short}
 use Rattle.sheet.proofs.item.terms_of.Goals as goal
 use Rattle.sheet.proofs.item.terms_of.Goals.{then-count-lt-MOST_TERMS, else-count-lt-MOST_TERMS}
 
