@@ -14,7 +14,7 @@ pub struct SetRow {
 }
 
 // The numbers whose bits are set in the mask, which is not 0.
-#[derive(Clone, Copy)]
+#[derive(Clone, Copy, PartialEq)]
 pub struct Set {
     mask: u64,
     ghost some: { (0 < mask) × (mask < 2 ^ 64) },
@@ -95,6 +95,6 @@ impl Window for Set {
     }
 
     fn alike(&self, other: &Set) -> bool {
-        self.mask == other.mask
+        self == other
     }
 }

@@ -4,12 +4,12 @@ ghost use Rattle.windows.specs.Sets.{has};
 ghost use Rattle.sets.specs.Masks.{mask_numbers, set_numbers};
 ghost use Rattle.rulebook.specs.Answers.{outcome, Tells, RowsKept};
 ghost use Rattle.rules.specs.Pointwise.{rule_of, written};
-ghost use Rattle.rules.specs.Writing.{numbers_of, listed};
+ghost use Rattle.rules.specs.Writing.{numbers_of};
+ghost use Rattle.rules.specs.Made.{made};
 ghost use Rattle.steps.specs.Steps.{in_reach, partnered, step_rule};
 
 use crate::step::Step;
-use pairs::Pair;
-use rulebook::Narrowing;
+use rulebook::{Emptied, WindowSet};
 use rules::NewWindows;
 use sets::{Set, SetRow};
 use windows::Window;
@@ -33,30 +33,26 @@ fn partnered(own: &Set, other: &Set, k: i32) -> Option<Set>
     })
 }
 
-// What the two windows become, both made from the old rows; nothing where one is missing. Written into the rows it gives the
-// rule's outcome.
-fn new_windows(pair: Pair, k: i32, rows: &[SetRow]) -> NewWindows<Set>
-    requires { in_reach k ≡ true }
-    ensures { written (map set_numbers rows.now) (listed (λ w. mask_numbers w.mask) result.items result.len) ≡ outcome (rule_of (step_rule k pair.p pair.q)) (map set_numbers rows.now) }
-{
-    let Some(first) = pair.first::<Set>(rows) else {
-        return NewWindows::new();
-    };
-    let Some(second) = pair.second::<Set>(rows) else {
-        return NewWindows::new();
-    };
-    pair.both(
-        partnered(&first, &second, k),
-        partnered(&second, &first, -k),
-    )
-}
-
 impl Step {
+    // What the two windows become, both made from the old rows; nothing where one is missing. Written into the rows it gives the
+    // rule's outcome.
+    fn new_windows(&self, rows: &[SetRow]) -> NewWindows<Set>
+        ensures { written (map set_numbers rows.now) (made (λ w. mask_numbers w.mask) result) ≡ outcome (rule_of (step_rule self.now.distance self.now.pair.p self.now.pair.q)) (map set_numbers rows.now) }
+    {
+        let Some((first, second)) = self.pair.windows::<Set>(rows) else {
+            return NewWindows::new();
+        };
+        self.pair.both(
+            partnered(&first, &second, self.distance),
+            partnered(&second, &first, -self.distance),
+        )
+    }
+
     // Narrows the rows by the step. A step that reads beyond the rows, and rows of which one fails its check, change nothing.
-    pub fn narrow(&self, rows: &mut [SetRow]) -> Narrowing
+    pub fn narrow(&self, rows: &mut [SetRow]) -> Result<WindowSet, Emptied>
         ensures equation { Tells (map set_numbers rows.old) (outcome (rule_of (step_rule self.now.distance self.now.pair.p self.now.pair.q)) (map set_numbers rows.old)) result (map set_numbers rows.new) }
         ensures rows { RowsKept result rows.old rows.new }
     {
-        new_windows(self.pair, self.distance, rows).write(rows)
+        self.new_windows(rows).write(rows)
     }
 }
