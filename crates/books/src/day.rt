@@ -1,12 +1,12 @@
-// The rules of the day book, each one checked.
+// The day book, and its rules, each one checked.
 ghost use Rattle.books.specs.Day.{day_rule, day_meaning, day_asks};
 ghost use Rattle.books.specs.DayLaws.{day_lawful, day_near, day_within};
 
 use crate::post::DayPost;
 use pairs::Pair;
 use products::Product;
-use rulebook::{BookRefusal, Narrowing};
-use rules::BookRule;
+use rulebook::{BookRefusal, Emptied, WindowSet};
+use rules::{Book, BookRule};
 use sums::Sum;
 use windows::{Span, SpanRow};
 
@@ -18,6 +18,9 @@ pub enum DayRule {
     Differ(Pair),
     Same(Pair),
 }
+
+// The rulebook over spans: sums, products, differ and same.
+pub type DayBook = Book<DayRule>;
 
 impl BookRule for DayRule {
     type Kind = Span;
@@ -55,7 +58,7 @@ impl BookRule for DayRule {
         }
     }
 
-    fn narrow(&self, rows: &mut [SpanRow]) -> Narrowing {
+    fn narrow(&self, rows: &mut [SpanRow]) -> Result<WindowSet, Emptied> {
         match *self {
             DayRule::Sum(sum) => sum.narrow(rows),
             DayRule::Product(product) => product.narrow(rows),

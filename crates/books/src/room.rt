@@ -1,11 +1,11 @@
-// The rules of the room book, each one checked.
+// The room book, and its rules, each one checked.
 ghost use Rattle.books.specs.Room.{room_rule, room_meaning, room_asks};
 ghost use Rattle.books.specs.RoomLaws.{room_lawful, room_near, room_within};
 
 use crate::post::RoomPost;
 use pairs::Pair;
-use rulebook::{BookRefusal, Narrowing};
-use rules::BookRule;
+use rulebook::{BookRefusal, Emptied, WindowSet};
+use rules::{Book, BookRule};
 use sets::{Set, SetRow};
 use steps::Step;
 
@@ -16,6 +16,9 @@ pub enum RoomRule {
     Same(Pair),
     Step(Step),
 }
+
+// The rulebook over sets: differ, same and step.
+pub type RoomBook = Book<RoomRule>;
 
 impl BookRule for RoomRule {
     type Kind = Set;
@@ -50,7 +53,7 @@ impl BookRule for RoomRule {
         }
     }
 
-    fn narrow(&self, rows: &mut [SetRow]) -> Narrowing {
+    fn narrow(&self, rows: &mut [SetRow]) -> Result<WindowSet, Emptied> {
         match *self {
             RoomRule::Differ(pair) => pair.differ::<Set>(rows).write(rows),
             RoomRule::Same(pair) => pair.same::<Set>(rows).write(rows),

@@ -1,5 +1,5 @@
 -- The number and the layer of each fault.
-use Rattle.std.specs.Prelude.{ℕ}
+use Rattle.std.specs.Prelude.{ℕ, List, ◌++◌, codes, decimal}
 use Rattle.rulebook.specs.Answers.{book_number}
 use Rattle.rulebook.specs.declared.answer.BookRefusal.{BookRefusal}
 use Rattle.rulebook.specs.declared.answer.BookRefusal.TheVariants as book
@@ -11,6 +11,7 @@ use Rattle.sheet.specs.declared.fault.Layer.{Layer}
 use Rattle.sheet.specs.declared.fault.Layer.TheVariants as layer
 use Rattle.sheet.specs.declared.fault.Cause.{Cause}
 use Rattle.sheet.specs.declared.fault.Cause.TheVariants as cause
+use Rattle.sheet.specs.declared.fault.Fault.{Fault}
 
 -- the number of the innermost refusal
 abbrev pub number_of : Cause → ℕ
@@ -45,3 +46,13 @@ abbrev pub layer_of : Cause → Layer
 layer_of (cause.Sheet f) = layer.Sheet
 layer_of (cause.Plan f) = plan_layer f
 layer_of (cause.Book f) = book_layer f
+
+-- the name of a layer
+abbrev pub layer_name : Layer → List ℕ
+layer_name layer.Sheet = codes "sheet"
+layer_name layer.Plan = codes "plan"
+layer_name layer.Book = codes "book"
+
+-- the line that a refused sheet is answered by: the refusal's number, its layer, and the first byte that was not taken
+abbrev pub fault_line : Fault → List ℕ
+fault_line f = codes "refused " ++ (decimal (number_of f.cause) ++ (codes " " ++ (layer_name (layer_of f.cause) ++ (codes " " ++ decimal f.at))))
