@@ -1,1 +1,1 @@
-mod GapLaws
+mod WaitingSteps

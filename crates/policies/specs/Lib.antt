@@ -1,3 +1,4 @@
 pub mod Waiting
+pub mod Policies
 pub mod DistinctLaws
 pub mod WaitingLaws

@@ -1,11 +1,11 @@
 // Policies: which waiting rule is taken next.
 #![tactic(auto)]
 
-mod first_come;
-mod lowest_first;
+mod by_choice;
+mod choice;
 mod policy;
 mod waiting;
 
-pub use first_come::FirstCome;
-pub use lowest_first::LowestFirst;
+pub use by_choice::{ByChoice, FirstCome, LowestFirst};
+pub use choice::{Choice, First, Lowest};
 pub use policy::Policy;

@@ -1,116 +1,70 @@
-// The waiting rules, in place: numbers below 64, none twice.
-ghost use Rattle.std.specs.Prelude.{◌≡◌, ℕ, ◌+◌, ◌<◌, ◌≤◌, true, [], ◌++◌, length, take, drop, slice_index};
-ghost use Rattle.policies.specs.Waiting.{holds, distinct, put, remove, first, lowest, taking};
+// The waiting rules: numbers below 64, none twice.
+ghost use Rattle.std.specs.Prelude.{◌≡◌, true, [], position, ◌==◌};
+ghost use Rattle.bounded.specs.Lists.{items};
+ghost use Rattle.policies.specs.Waiting.{holds, distinct, put, remove};
 
-// The first `len` numbers wait.
+use bounded::BoundedList;
+
+// The rules that wait, in the order in which they came.
 #[derive(Clone, Copy)]
 pub struct WaitingList {
-    rules: [usize; 64],
-    len: usize,
-    ghost fits: { len ≤ 64 },
-    ghost apart: { distinct (take len rules) ≡ true },
+    rules: BoundedList<usize, 64>,
+    ghost apart: { distinct (items rules) ≡ true },
 }
 
 impl WaitingList {
     // No rule waits.
     pub fn new() -> Self
-        ensures { take result.len result.rules ≡ [] }
+        ensures { items result.rules ≡ [] }
     {
         WaitingList {
-            rules: [0; 64],
-            len: 0,
+            rules: BoundedList::new(),
         }
+    }
+
+    // The rules that wait.
+    pub fn as_slice(&self) -> &[usize]
+        ensures { result.now ≡ items self.now.rules }
+    {
+        self.rules.as_slice()
     }
 
     // Does rule i wait?
     fn has(&self, i: usize) -> bool
-        ensures { result ≡ holds i (take self.now.len self.now.rules) }
+        ensures { result ≡ holds i (items self.now.rules) }
     {
-        for j in 0..self.len {
-            if self.rules[j] == i {
-                return true;
-            }
-        }
-        false
+        self.as_slice().contains(&i)
     }
 
     // An absent number below 64 goes to the end.
     pub fn put(&mut self, i: usize)
-        ensures { take self.new.len self.new.rules ≡ put i (take self.old.len self.old.rules) }
+        ensures { items self.new.rules ≡ put i (items self.old.rules) }
     {
-        if i >= 64 || self.has(i) {
-            return;
+        if i < 64 && !self.has(i) {
+            self.rules.push(i);
         }
-        let n = self.len;
-        self.rules[n] = i;
-        self.len = n + 1;
     }
 
     // Lets no rule wait.
     pub fn clear(&mut self)
-        ensures { take self.new.len self.new.rules ≡ [] }
+        ensures { items self.new.rules ≡ [] }
     {
-        self.len = 0;
+        self.rules.truncate(0);
     }
 
-    // Takes the number that came first.
-    pub fn take_first(&mut self) -> Option<usize>
-        ensures { taking first (take self.old.len self.old.rules) ≡ record { answer = result; after = take self.new.len self.new.rules } }
+    // The place of rule i, or none if it does not wait.
+    fn place_of(&self, i: usize) -> Option<usize>
+        ensures { result ≡ position (λ x. x == i) (items self.now.rules) }
     {
-        if self.len == 0 {
-            return None;
+        self.as_slice().iter().position(|x| *x == i)
+    }
+
+    // Takes rule i out, if it waits.
+    pub fn remove(&mut self, i: usize)
+        ensures { items self.new.rules ≡ remove i (items self.old.rules) }
+    {
+        if let Some(k) = self.place_of(i) {
+            self.rules.remove(k);
         }
-        Some(self.remove(0))
-    }
-
-    // Takes the lowest number.
-    pub fn take_lowest(&mut self) -> Option<usize>
-        ensures { taking lowest (take self.old.len self.old.rules) ≡ record { answer = result; after = take self.new.len self.new.rules } }
-    {
-        if self.len == 0 {
-            return None;
-        }
-        let k = self.lowest();
-        Some(self.remove(k))
-    }
-
-    // The place of the lowest number.
-    fn lowest(&self) -> usize
-        requires { 0 < length (take self.now.len self.now.rules) }
-        ensures below { result < length (take self.now.len self.now.rules) }
-        ensures least { (j : ℕ) → j < length (take self.now.len self.now.rules) → slice_index (take self.now.len self.now.rules) result ≤ slice_index (take self.now.len self.now.rules) j }
-    {
-        let mut k = 0;
-        for j in 1..self.len {
-            if self.rules[j] < self.rules[k] {
-                k = j;
-            }
-        }
-        k
-    }
-
-    // Takes out the number at place k.
-    fn remove(&mut self, k: usize) -> usize
-        requires { k < length (take self.old.len self.old.rules) }
-        ensures value { result ≡ slice_index (take self.old.len self.old.rules) k }
-        ensures rest { take self.new.len self.new.rules ≡ remove result (take self.old.len self.old.rules) }
-    {
-        let x = self.rules[k];
-        let n = self.len - 1;
-        let mut rules = self.rules;
-        close_gap(&mut rules, k, n);
-        self.rules = rules;
-        self.len = n;
-        x
-    }
-}
-
-// Moves each number behind place k one place down, up to place n.
-fn close_gap(rules: &mut [usize], k: usize, n: usize)
-    requires { (k ≤ n) × (n < length rules.old) }
-    ensures { take n rules.new ≡ take n (take k rules.old ++ drop (k + 1) rules.old) }
-{
-    for j in k..n {
-        rules[j] = rules[j + 1];
     }
 }

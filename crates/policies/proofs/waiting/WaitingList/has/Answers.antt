@@ -1,16 +1,8 @@
-use Rattle.std.proofs.Common.{◌≡◌, length, sym, arith, rules}
-use Rattle.policies.specs.DistinctLaws.{held_at, held_more}
+use Rattle.std.proofs.Common.{◌∙◌, ap, ◌==◌}
+use Rattle.std.specs.List.{list_any}
+use Rattle.bounded.specs.Lists.{items}
+use Rattle.policies.proofs.WaitingSteps.{any_holds}
 use Rattle.policies.proofs.waiting.WaitingList.has.Goals as goal
 
-pub returns-then-self-j : goal.returns-then-self-j
-returns-then-self-j c =
-    let long : length c.args.self.now.rules ≡ 64 = search rules in
-    let fits = c.args.self.now.fits in
-    sym (held_at c.args.i c.loop-j.j c.args.self.now.len c.args.self.now.rules c.loop-j-test.true (omega arith) c.if-self-j.true)
-
-pub loop-j-preserved : goal.loop-j-preserved
-loop-j-preserved c =
-    let long : length c.args.self.now.rules ≡ 64 = search rules in
-    let fits = c.args.self.now.fits in
-    let l = c.loop-j-test.true in
-    held_more c.args.i c.loop-j.j c.args.self.now.rules (omega arith) c.loop-j.invariant c.if-self-j.false
+pub returns : goal.returns
+returns c = c.contains.ensures.value ∙ ap (list_any (λ x. x == c.args.i)) c.as_slice.ensures ∙ any_holds c.args.i (items c.args.self.now.rules)
