@@ -1,125 +1,27 @@
--- Settling rows: a plan that is made is not refused when it is settled.
-use Rattle.std.proofs.Common.{◌≡◌, ℕ, ◌+◌, ◌-◌, ◌*◌, ◌<◌, ◌≤◌, min, Bool, true, false, cond, eqb, leb, ◌⊎◌, List, ◌++◌, map, length, take, drop, Some, None, Ok, Err, Option, Result, sym, refl, ap, ◌∙◌, subst, ap₂, inl, inr, append-nil, arith, length-append, length-drop, take-append-drop}
-use Rattle.std.proofs.lemmas.List.{take_all, take_at, drop_all, drop_at}
-use Rattle.std.proofs.lemmas.Bool.{eq-eqb, leb-true, cases_lt, cond-true}
+-- Settling a sheet: its first rows, by its rules.
+use Rattle.std.proofs.Common.{◌≡◌, ℕ, true, is_ok, List, map, length, take, drop, Ok, Err, Result, sym, ap, ◌∙◌, arith}
+use Rattle.std.proofs.lemmas.Bool.{cond-true}
 use Rattle.windows.specs.declared.span.SpanRow.{SpanRow}
-use Rattle.rulebook.specs.Tables.{Table}
-use Rattle.rulebook.specs.Rules.{Rule}
-use Rattle.rulebook.specs.Answers.{reach_of}
-use Rattle.policies.specs.Waiting.{first}
-use Rattle.plan.specs.States.{State}
-use Rattle.plan.specs.Settling.{settling}
-use Rattle.plan.specs.Calls.{making}
-use Rattle.plan.specs.Refusals.{is_table, board_refusal, refused, make_refused, Made, made_unless, make_call, Call, unless, settle_call}
+use Rattle.windows.specs.Rows.{span_numbers}
 use Rattle.plan.specs.declared.answer.PlanRefusal.{PlanRefusal}
-use Rattle.plan.specs.declared.answer.PlanRefusal.TheVariants as plan
 use Rattle.plan.specs.declared.answer.Verdict.{Verdict}
-use Rattle.plan.specs.Views.{stored, Untouched}
+use Rattle.plan.specs.Views.{Untouched}
+use Rattle.settle.specs.Settled.{ran, ran_to, given_to}
 use Rattle.sheet.specs.Reading.{Held, roomy}
 use Rattle.sheet.specs.declared.states.Read.{Read}
-use Rattle.sheet.specs.Settled.{Ran, ran_unless, ran, ran_to, given_to, windows_of, by_plan, Settling, settled_to, settled, left}
+use Rattle.sheet.specs.Settled.{windows_of, by_plan, Settling, settled_to, settled, left}
 use Rattle.sheet.specs.declared.fault.Fault.{Fault}
-use Rattle.windows.specs.Rows.{span_numbers}
 
-none_some : {X : Type 0} (f : PlanRefusal) → ◌≡◌ {A = Option PlanRefusal} (Some f) None → X
-none_some f e = let z : ◌≡◌ {A = ℕ} 0 1 = cc in absurd (omega arith)
-
--- a board that passed with one wish about its length passes with another that holds
-passes : (T : Table) (long : ℕ) (wanted other : Bool) → board_refusal T long wanted ≡ None → other ≡ true → (board_refusal T long other ≡ None) × (16 * length T ≤ long)
-passes T long wanted other = go (is_table T) (leb (16 * length T) long) refl wanted
-  where
-    go : (t l : Bool) → leb (16 * length T) long ≡ l → (w : Bool) → cond t (cond l (cond w None (Some plan.Length)) (Some plan.Store)) (Some plan.Windows) ≡ None → other ≡ true → (cond t (cond l (cond other None (Some plan.Length)) (Some plan.Store)) (Some plan.Windows) ≡ None) × (16 * length T ≤ long)
-    go true true e w h o = (rw o refl, leb-true (16 * length T) long e)
-    go true false e w h o = none_some plan.Store h
-    go false l e w h o = none_some plan.Windows h
-
--- an accepted making leaves a plan whose board is not refused
-pub settles : (rules : List Rule) (T : Table) (long : ℕ) → make_refused rules T long ≡ None → refused long (making rules T) ≡ None
-settles rules T long e = (passes T long (leb (reach_of rules 64) (length T)) (eqb (length T) (length T)) e (eq-eqb (length T) (length T) refl)).0
-
--- and its store holds 16 tables
-pub stores : (rules : List Rule) (T : Table) (long : ℕ) → make_refused rules T long ≡ None → 16 * length T ≤ long
-stores rules T long e = (passes T long (leb (reach_of rules 64) (length T)) true e refl).1
-
--- what a making was refused for
-pub made_refusal : (rules : List Rule) (w : List ℕ) (T : Table) (long : ℕ) (o : Option PlanRefusal) (s : State) → make_call rules w T long ≡ record { refusal = o; after = s } → make_refused rules T long ≡ o
-made_refusal rules w T long o s = go (make_refused rules T long)
-  where
-    go : (q : Option PlanRefusal) → made_unless q rules w T ≡ record { refusal = o; after = s } → q ≡ o
-    go (Some f) e = ap (λ (m : Made). m.refusal) e
-    go None e = ap (λ (m : Made). m.refusal) e
-
-made_state : (rules : List Rule) (w : List ℕ) (T : Table) (q o : Option PlanRefusal) (s : State) → q ≡ None → made_unless q rules w T ≡ record { refusal = o; after = s } → making rules T ≡ s
-made_state rules w T (Some f) o s n e = none_some f n
-made_state rules w T None o s n e = ap (λ (m : Made). m.after) e
-
--- a refused making
-pub ran_refused : (rules : List Rule) (w : List ℕ) (T : Table) (long : ℕ) (o : Option PlanRefusal) (f : PlanRefusal) (s : State) → make_call rules w T long ≡ record { refusal = o; after = s } → o ≡ Some f → ran rules T long ≡ record { answer = Err f; after = T }
-ran_refused rules w T long o f s e q = ap (λ p. ran_unless p rules T) (made_refusal rules w T long o s e ∙ q)
-
--- an accepted making, and then the settling
-pub ran_settled : (rules : List Rule) (w : List ℕ) (T : Table) (long : ℕ) (o : Option PlanRefusal) (s t : State) (r : Result Verdict PlanRefusal) → make_call rules w T long ≡ record { refusal = o; after = s } → o ≡ None → settle_call first long s ≡ record { answer = r; after = t } → ran rules T long ≡ record { answer = r; after = t.table }
-ran_settled rules w T long o s t r e n f =
-    let p : make_refused rules T long ≡ None = made_refusal rules w T long o s e ∙ n in
-    let q : making rules T ≡ s = made_state rules w T (make_refused rules T long) o s p e in
-    let run : Call Verdict = record { answer = Ok (settling first (making rules T)).verdict; after = (settling first (making rules T)).after } in
-    let g : settle_call first long (making rules T) ≡ record { answer = r; after = t } = subst (λ (x : State). settle_call first long x ≡ record { answer = r; after = t }) (sym q) f in
-    let h : settle_call first long (making rules T) ≡ run = ap (λ (x : Option PlanRefusal). unless x (making rules T) run) (settles rules T long p) in
-    ap (λ x. ran_unless x rules T) p ∙ ap {B = Ran} (λ (c : Call Verdict). record { answer = c.answer; after = c.after.table }) (sym h ∙ g)
-
--- ---- over rows and a store
--- asked before anything is written
-pub ran_asked : (rules : List Rule) (T : Table) (long : ℕ) (f : PlanRefusal) → Some f ≡ make_refused rules T long → ran rules T long ≡ record { answer = Err f; after = T }
-ran_asked rules T long f e = ap (λ o. ran_unless o rules T) (sym e)
-
--- an accepted making runs to a verdict
-pub given_stored : (rules : List Rule) (T U : Table) (long : ℕ) (r : Result Verdict PlanRefusal) (store rows : List SpanRow) → None ≡ make_refused rules T long → ran rules T long ≡ record { answer = r; after = U } → given_to r store rows ≡ stored store 0 rows
-given_stored rules T U long (Ok v) store rows n e = refl
-given_stored rules T U long (Err f) store rows n e = let q : ◌≡◌ {A = Result Verdict PlanRefusal} (Ok (settling first (making rules T)).verdict) (Err f) = ap (λ (x : Ran). x.answer) (ap (λ o. ran_unless o rules T) n ∙ e) in let z : ◌≡◌ {A = ℕ} 0 1 = cc in absurd (omega arith)
-
--- what the copy leaves in the store
-pub copied : (store rows mid : List SpanRow) → mid ≡ rows → mid ++ drop (length rows - 0) store ≡ stored store 0 rows
-copied store rows mid e = let n : length rows - 0 ≡ 0 + length rows = omega arith in ap₂ (λ m k. m ++ drop k store) e n
-
-pub copied_long : (store rows mid : List SpanRow) → mid ≡ rows → length rows ≤ length store → length (mid ++ drop (length rows - 0) store) ≡ length store
-copied_long store rows mid e h = let l = length-append mid (drop (length rows - 0) store) in let d = length-drop (length rows - 0) store in omega (arith, ap length e)
-
--- ---- over the first n rows
--- the first n rows, as many as there are
-pub front_is : {X : Type 0} (rows : List X) (n end : ℕ) → end ≡ min n (length rows) → take (end - 0) rows ≡ take n rows
-front_is rows n end e = go (cases_lt n (length rows))
-  where
-    go : (n < length rows) ⊎ (length rows ≤ n) → take (end - 0) rows ≡ take n rows
-    go (inl h) = let q : end - 0 ≡ n = omega arith in ap (λ k. take k rows) q
-    go (inr h) = take_all (end - 0) rows (omega arith) ∙ sym (take_all n rows h)
-
-pub front_new : {X : Type 0} (rows new : List X) (n end : ℕ) → end ≡ min n (length rows) → length new ≡ end - 0 → take n (new ++ drop (end - 0) rows) ≡ new
-front_new rows new n end e l = go (cases_lt n (length rows))
-  where
-    go : (n < length rows) ⊎ (length rows ≤ n) → take n (new ++ drop (end - 0) rows) ≡ new
-    go (inl h) = take_at new (drop (end - 0) rows) n (omega arith)
-    go (inr h) = ap (λ x. take n (new ++ x)) (drop_all (end - 0) rows (omega arith)) ∙ ap (take n) (append-nil new) ∙ take_all n new (omega arith)
-
-pub front_others : {X : Type 0} (rows new : List X) (n end : ℕ) → end ≡ min n (length rows) → length new ≡ end - 0 → drop n (new ++ drop (end - 0) rows) ≡ drop n rows
-front_others rows new n end e l = go (cases_lt n (length rows))
-  where
-    go : (n < length rows) ⊎ (length rows ≤ n) → drop n (new ++ drop (end - 0) rows) ≡ drop n rows
-    go (inl h) = let q : end - 0 ≡ n = omega arith in drop_at new (drop (end - 0) rows) n (omega arith) ∙ ap (λ k. drop k rows) q
-    go (inr h) = ap (λ x. drop n (new ++ x)) (drop_all (end - 0) rows (omega arith)) ∙ ap (drop n) (append-nil new) ∙ drop_all n new (omega arith) ∙ sym (drop_all n rows h)
-
--- rows whose first ones are the very same
-pub front_untouched : {A E : Type 0} (r : Result A E) (rows new : List SpanRow) (k : ℕ) → Untouched r (take k rows) new → Untouched r rows (new ++ drop k rows)
-front_untouched (Ok v) rows new k u = tt
-front_untouched (Err f) rows new k u = ap (λ x. x ++ drop k rows) u ∙ take-append-drop k rows
-
--- ---- a sheet
-pub settled_left : (s : Read) (l : Held) (a : Result Verdict PlanRefusal) (rows store : List SpanRow) (r : Result Verdict Fault) → roomy l ≡ true → ran l.rules (windows_of s l) (length l.store) ≡ ran_to a (take s.windows rows) → drop s.windows rows ≡ drop s.windows l.rows → store ≡ given_to a l.store (take s.windows l.rows) → r ≡ by_plan s.at a → settled s l ≡ left s r l.rules rows store
+pub settled_left : (s : Read) (l : Held) (a : Result Verdict PlanRefusal) (rows store : List SpanRow) (r : Result Verdict Fault) → roomy l ≡ true → ran l.rules (windows_of s l) (length l.store) ≡ ran_to span_numbers a (take s.windows rows) → drop s.windows rows ≡ drop s.windows l.rows → store ≡ given_to a l.store (take s.windows l.rows) → r ≡ by_plan s.at a → settled s l ≡ left s r l.rules rows store
 settled_left s l a rows store r w e o t q =
     ap (settled_to s l) (cond-true (roomy l) _ _ w ∙ e)
     ∙ ap {B = Settling} (λ (x : List SpanRow). record { answer = by_plan s.at a; rules = l.rules; table = map span_numbers (take s.windows rows); others = x; store = given_to a l.store (take s.windows l.rows) }) (sym o)
     ∙ ap {B = Settling} (λ (x : List SpanRow). record { answer = by_plan s.at a; rules = l.rules; table = map span_numbers (take s.windows rows); others = drop s.windows rows; store = x }) (sym t)
     ∙ ap {B = Settling} (λ (x : Result Verdict Fault). left s x l.rules rows store) (sym q)
 
-pub plan_untouched : (at : ℕ) (a : Result Verdict PlanRefusal) (r : Result Verdict Fault) (old new : List SpanRow) → r ≡ by_plan at a → Untouched a old new → Untouched r old new
-plan_untouched at (Ok v) r old new q u = subst (λ (x : Result Verdict Fault). Untouched x old new) (sym q) tt
-plan_untouched at (Err f) r old new q u = subst (λ (x : Result Verdict Fault). Untouched x old new) (sym q) u
+-- another error for the one that was answered: what a refused call leaves untouched stays so
+pub mapped_untouched : {A E F : Type 0} (a : Result A E) (r : Result A F) (old new : List SpanRow) → is_ok r ≡ is_ok a → Untouched a old new → Untouched r old new
+mapped_untouched (Ok v) (Ok w) old new q u = tt
+mapped_untouched (Err e) (Err f) old new q u = u
+mapped_untouched (Ok v) (Err f) old new q u = let z : ◌≡◌ {A = ℕ} 0 1 = cc in absurd (omega arith)
+mapped_untouched (Err e) (Ok w) old new q u = tt

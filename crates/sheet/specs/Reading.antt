@@ -24,8 +24,6 @@ use Rattle.sheet.specs.declared.item.Item.TheVariants as item
 use Rattle.sheet.specs.declared.lent.Lent.{Lent}
 use Rattle.sheet.specs.declared.states.Open.{Open}
 use Rattle.sheet.specs.declared.states.Read.{Read}
-use Rattle.sheet.specs.declared.states.Taken.{Taken}
-use Rattle.sheet.specs.declared.states.Taken.TheVariants as taken
 
 -- what is lent to a sheet: the rules of its book, its rows and its store
 pub record Held : Type 0 where
@@ -104,9 +102,9 @@ abbrev pub outcome : Result (Unit {0}) Cause → Sheet → Result Sheet Cause
 outcome (Ok t) s = Ok s
 outcome (Err c) s = Err c
 
--- what a reading answers, and the sheet after it
+-- what a reading answers, the kind of the record that it took or none where no byte is left, and the sheet after it
 pub record Reading : Type 0 where
-  pub answer : Result Taken Fault
+  pub answer : Result (Option ℕ) Fault
   pub after : Sheet
 
 -- a refused reading takes nothing
@@ -114,7 +112,7 @@ abbrev pub read_refused : Sheet → Cause → Reading
 read_refused s c = record { answer = Err (record { cause = c; at = s.at }); after = s }
 
 abbrev pub read_took : Sheet → Found → Result Sheet Cause → Reading
-read_took s f (Ok t) = record { answer = Ok (taken.Record f.number); after = record { at = f.next; stage = t.stage; windows = t.windows; lent = t.lent } }
+read_took s f (Ok t) = record { answer = Ok (Some f.number); after = record { at = f.next; stage = t.stage; windows = t.windows; lent = t.lent } }
 read_took s f (Err c) = read_refused s c
 
 abbrev pub read_item : Sheet → Found → Option Item → Reading
@@ -123,7 +121,7 @@ read_item s f None = read_refused s (cause.Sheet sheet.Length)
 
 abbrev pub read_found : Sheet → Result (Option Found) SheetRefusal → Reading
 read_found s (Err f) = read_refused s (cause.Sheet f)
-read_found s (Ok None) = record { answer = Ok taken.End; after = s }
+read_found s (Ok None) = record { answer = Ok None; after = s }
 read_found s (Ok (Some f)) = read_item s f (item_of f.rec)
 
 -- one record is taken, or the end is told
@@ -131,18 +129,18 @@ abbrev pub reading : List ℕ → Sheet → Reading
 reading bs s = read_found s (record_at bs s.at s.stage)
 
 -- reading goes on after a record, and not after the end or a refusal
-abbrev pub next : Reading → Result Taken Fault → Reading → Reading
-next r (Ok (taken.Record k)) rest = rest
-next r (Ok taken.End) rest = r
+abbrev pub next : Reading → Result (Option ℕ) Fault → Reading → Reading
+next r (Ok (Some k)) rest = rest
+next r (Ok None) rest = r
 next r (Err f) rest = r
 
 -- at most n readings, one after the other
 unfoldable pub readings : ℕ → List ℕ → Sheet → Reading
-readings zero bs s = record { answer = Ok taken.End; after = s }
+readings zero bs s = record { answer = Ok None; after = s }
 readings (suc n) bs s = let r = reading bs s in next r r.answer (readings n bs r.after)
 
 -- what reading to the end answers: nothing, or the fault
-abbrev pub quiet : Result Taken Fault → Result (Unit {0}) Fault
+abbrev pub quiet : Result (Option ℕ) Fault → Result (Unit {0}) Fault
 quiet (Ok t) = Ok tt
 quiet (Err f) = Err f
 

@@ -4,47 +4,16 @@ use Rattle.windows.specs.Rows.{span_numbers}
 use Rattle.windows.specs.declared.span.SpanRow.{SpanRow}
 use Rattle.rulebook.specs.Tables.{Table}
 use Rattle.rulebook.specs.Rules.{Rule}
-use Rattle.policies.specs.Waiting.{first}
-use Rattle.plan.specs.Settling.{settling}
-use Rattle.plan.specs.Calls.{making}
-use Rattle.plan.specs.Refusals.{make_refused}
-use Rattle.plan.specs.Views.{store_after}
 use Rattle.plan.specs.declared.answer.PlanRefusal.{PlanRefusal}
 use Rattle.plan.specs.declared.answer.PlanRefusal.TheVariants as plan
 use Rattle.plan.specs.declared.answer.Verdict.{Verdict}
 use Rattle.records.specs.declared.refusal.SheetRefusal.TheVariants as sheet
 use Rattle.listing.specs.Lines.{span_look, listing, Printed, printed}
+use Rattle.settle.specs.Settled.{Ran, ran, given_to}
 use Rattle.sheet.specs.Reading.{Held, roomy}
 use Rattle.sheet.specs.declared.fault.Cause.TheVariants as cause
 use Rattle.sheet.specs.declared.fault.Fault.{Fault}
 use Rattle.sheet.specs.declared.states.Read.{Read}
-
--- ---- settling rows
--- what settling rows answers, and the windows after it
-pub record Ran : Type 0 where
-  pub answer : Result Verdict PlanRefusal
-  pub after : Table
-
--- a plan of these rules and windows, settled first-come, unless its making is refused
-abbrev pub ran_unless : Option PlanRefusal → List Rule → Table → Ran
-ran_unless (Some f) rules T = record { answer = Err f; after = T }
-ran_unless None rules T = record { answer = Ok (settling first (making rules T)).verdict; after = (settling first (making rules T)).after.table }
-
--- the same on a board with a store of this length
-abbrev pub ran : List Rule → Table → ℕ → Ran
-ran rules T long = ran_unless (make_refused rules T long) rules T
-
--- the same over rows and a store
-abbrev pub rows_ran : List Rule → List SpanRow → List SpanRow → Ran
-rows_ran rules rows store = ran rules (map span_numbers rows) (length store)
-
--- a settling with this answer that left these rows
-abbrev pub ran_to : Result Verdict PlanRefusal → List SpanRow → Ran
-ran_to r rows = record { answer = r; after = map span_numbers rows }
-
--- the store after a settling with this answer: the windows as they were given stand at its front
-abbrev pub given_to : {A E : Type 0} → Result A E → List SpanRow → List SpanRow → List SpanRow
-given_to r store rows = store_after r store 0 rows
 
 -- ---- settling a sheet
 -- the windows of a sheet as they stand in its rows

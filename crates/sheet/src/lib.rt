@@ -8,4 +8,4 @@ mod states;
 
 pub use fault::{Cause, Fault, Layer};
 pub use lent::Lent;
-pub use states::{Open, Read, Taken};
+pub use states::{Open, Read};

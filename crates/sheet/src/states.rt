@@ -23,13 +23,6 @@ pub struct Read {
     windows: usize,
 }
 
-// What one reading took: a record of this kind, or nothing since no byte is left.
-#[derive(Clone, Copy, PartialEq, Debug)]
-pub enum Taken {
-    Record(u16),
-    End,
-}
-
 // Are there places for 64 windows, and for 16 times as many in the store?
 fn is_roomy(lent: &Lent) -> bool
     ensures { result ≡ roomy (held lent.now) }

@@ -3,7 +3,7 @@ ghost use Rattle.std.specs.Prelude.{◌≡◌, ◌<◌, length, OnErr};
 ghost use Rattle.sheet.specs.Reading.{held, opened, view, added, took, outcome, reading, readings, quiet, finished};
 ghost use Rattle.sheet.specs.declared.item.Item.TheVariants as item;
 
-use super::{Open, Read, Taken, is_roomy};
+use super::{Open, Read, is_roomy};
 use crate::fault::{Cause, Fault};
 use crate::item::{Item, item_of};
 use crate::lent::Lent;
@@ -22,12 +22,16 @@ impl Open {
         ensures { opened bytes.now (held lent.old) ≡ record { answer = result; after = held lent.new } }
     {
         if bytes.len() > 61_440 {
-            let cause = Cause::Sheet(SheetRefusal::Long);
-            return Err(Fault { cause, at: 0 });
+            return Err(Fault {
+                cause: SheetRefusal::Long.into(),
+                at: 0,
+            });
         }
         if !is_roomy(lent) {
-            let cause = Cause::Plan(PlanRefusal::Store);
-            return Err(Fault { cause, at: 0 });
+            return Err(Fault {
+                cause: PlanRefusal::Store.into(),
+                at: 0,
+            });
         }
         lent.book.shorten(0);
         Ok(Open {
@@ -43,7 +47,7 @@ impl Open {
         ensures kept { OnErr result (view self.new lent.new ≡ view self.old lent.old) }
     {
         if kind != 1 {
-            return Err(Cause::Sheet(SheetRefusal::Place));
+            return Err(SheetRefusal::Place.into());
         }
         self.stage = Stage::Windows;
         Ok(())
@@ -56,7 +60,7 @@ impl Open {
         ensures kept { OnErr result (view self.new lent.new ≡ view self.old lent.old) }
     {
         let Some(_window) = Span::from_row(row) else {
-            return Err(Cause::Book(BookRefusal::Row));
+            return Err(BookRefusal::Row.into());
         };
         lent.rows[self.windows] = row;
         self.windows += 1;
@@ -68,13 +72,9 @@ impl Open {
         ensures value { added (view self.old lent.old) (item.Rule rule) ≡ outcome result (view self.new lent.new) }
         ensures kept { OnErr result (view self.new lent.new ≡ view self.old lent.old) }
     {
-        match lent.book.post(rule, self.windows) {
-            Ok(_) => {
-                self.stage = Stage::Rules;
-                Ok(())
-            }
-            Err(refusal) => Err(Cause::Book(refusal)),
-        }
+        lent.book.post(rule, self.windows)?;
+        self.stage = Stage::Rules;
+        Ok(())
     }
 
     // What an item adds, where there is room for it.
@@ -83,10 +83,10 @@ impl Open {
         ensures kept { OnErr result (view self.new lent.new ≡ view self.old lent.old) }
     {
         if matches!(item, Item::Window(_)) && self.windows >= 64 {
-            return Err(Cause::Plan(PlanRefusal::Windows));
+            return Err(PlanRefusal::Windows.into());
         }
         if !is_roomy(lent) {
-            return Err(Cause::Plan(PlanRefusal::Store));
+            return Err(PlanRefusal::Store.into());
         }
         match item {
             Item::Kind(kind) => self.add_kind(kind, lent),
@@ -96,31 +96,25 @@ impl Open {
         }
     }
 
-    // Takes one record and answers its kind, or that no byte is left. A refused reading takes nothing.
-    pub fn read(&mut self, bytes: &[u8], lent: &mut Lent) -> Result<Taken, Fault>
+    // Takes one record and answers its kind, or none where no byte is left. A refused reading takes nothing.
+    pub fn read(&mut self, bytes: &[u8], lent: &mut Lent) -> Result<Option<u16>, Fault>
         ensures { reading bytes.now (view self.old lent.old) ≡ record { answer = result; after = view self.new lent.new } }
     {
         let at = self.at;
-        match record_at(bytes, at, self.stage) {
-            Err(refusal) => Err(Fault {
-                cause: Cause::Sheet(refusal),
-                at,
-            }),
-            Ok(None) => Ok(Taken::End),
-            Ok(Some(placed)) => {
-                let Some(item) = item_of(placed.record) else {
-                    let cause = Cause::Sheet(SheetRefusal::Length);
-                    return Err(Fault { cause, at });
-                };
-                match self.take(item, lent) {
-                    Err(cause) => Err(Fault { cause, at }),
-                    Ok(()) => {
-                        self.at = placed.next;
-                        Ok(Taken::Record(placed.kind))
-                    }
-                }
-            }
-        }
+        let found = record_at(bytes, at, self.stage).map_err(|refusal| Fault {
+            cause: refusal.into(),
+            at,
+        })?;
+        let Some(placed) = found else {
+            return Ok(None);
+        };
+        let item = item_of(placed.record).ok_or(Fault {
+            cause: SheetRefusal::Length.into(),
+            at,
+        })?;
+        self.take(item, lent).map_err(|cause| Fault { cause, at })?;
+        self.at = placed.next;
+        Ok(Some(placed.kind))
     }
 
     // Reads record after record, to the end or to the first refusal.
@@ -129,10 +123,8 @@ impl Open {
         ensures after { view self.new lent.new ≡ (readings 15361 bytes.now (view self.old lent.old)).after }
     {
         for turn in 0..MOST_READINGS {
-            match self.read(bytes, lent) {
-                Err(fault) => return Err(fault),
-                Ok(Taken::End) => return Ok(()),
-                Ok(Taken::Record(_kind)) => {}
+            if self.read(bytes, lent)?.is_none() {
+                return Ok(());
             }
         }
         Ok(())
@@ -142,15 +134,20 @@ impl Open {
     pub fn finish(self, bytes: &[u8]) -> Result<Read, (Open, Fault)>
         ensures { result ≡ finished (length bytes.now) self }
     {
-        let Open { at, stage, windows } = self;
+        let at = self.at;
         if at < bytes.len() {
-            let cause = Cause::Sheet(SheetRefusal::Left);
-            return Err((Open { at, stage, windows }, Fault { cause, at }));
+            let cause = SheetRefusal::Left.into();
+            return Err((self, Fault { cause, at }));
         }
-        if windows == 0 {
-            let cause = Cause::Plan(PlanRefusal::Windows);
-            return Err((Open { at, stage, windows }, Fault { cause, at }));
+        if self.windows == 0 {
+            let cause = PlanRefusal::Windows.into();
+            return Err((self, Fault { cause, at }));
         }
+        let Open {
+            at,
+            stage: _,
+            windows,
+        } = self;
         Ok(Read { at, windows })
     }
 }

@@ -1,4 +1,4 @@
-use Rattle.std.proofs.Common.{refl}
+use Rattle.std.proofs.Common.{refl, Err, sym, ap, ◌∙◌}
 use Rattle.std.proofs.lemmas.Bool.{cond-true, cond-false}
 use Rattle.windows.specs.Rows.{span_stands}
 use Rattle.sheet.proofs.WindowLaws.{row_passes, row_fails}
@@ -10,4 +10,4 @@ returns c =
     record { value = cond-true (span_stands c.args.row) _ _ (row_passes c.args.row w.lo w.hi w.stands c.in-Some.ensures); kept = tt }
 
 pub returns-in_default : goal.returns-in_default
-returns-in_default c = record { value = cond-false (span_stands c.args.row) _ _ (row_fails c.args.row c.in_default.ensures); kept = refl }
+returns-in_default c = record { value = cond-false (span_stands c.args.row) _ _ (row_fails c.args.row c.in_default.ensures) ∙ ap Err (sym c.into.ensures); kept = refl }
