@@ -150,3 +150,28 @@ abbrev pub finished : ℕ → Open → Result Read (Open × Fault)
 finished n o =
     cond (nat_lt o.at n) (Err (o, record { cause = cause.Sheet sheet.Left; at = o.at }))
     (cond (o.windows == 0) (Err (o, record { cause = cause.Plan plan.Windows; at = o.at })) (Ok (record { at = o.at; windows = o.windows })))
+
+-- ---- a whole sheet
+-- what opening, reading and finishing a sheet answer together, and what is lent after them
+pub record Whole : Type 0 where
+  pub answer : Result Read Fault
+  pub after : Held
+
+-- an open sheet that does not finish is given up
+abbrev pub or_fault : Result Read (Open × Fault) → Result Read Fault
+or_fault (Ok r) = Ok r
+or_fault (Err e) = Err e.1
+
+-- finished, unless its reading was refused
+abbrev pub read_through : List ℕ → Result (Unit {0}) Fault → Sheet → Whole
+read_through bs (Ok t) s = record { answer = or_fault (finished (length bs) (record { at = s.at; stage = s.stage; windows = s.windows })); after = s.lent }
+read_through bs (Err f) s = record { answer = Err f; after = s.lent }
+
+-- read to its end, unless its opening was refused
+abbrev pub opened_through : List ℕ → Result Open Fault → Held → Whole
+opened_through bs (Ok o) l = let r = readings 15361 bs (record { at = o.at; stage = o.stage; windows = o.windows; lent = l }) in read_through bs (quiet r.answer) r.after
+opened_through bs (Err f) l = record { answer = Err f; after = l }
+
+-- opened, read and finished
+abbrev pub whole : List ℕ → Held → Whole
+whole bs l = let o = opened bs l in opened_through bs o.answer o.after

@@ -17,38 +17,18 @@ const LISTING: &[u8; 50] = b"settled 2\n0 560 605 cut\n1 600 645 open\n2 3 3 ope
 
 const ROOM: [SpanRow; 1024] = [SpanRow { lo: 0, hi: 0 }; 1024];
 
-// Opens, reads and finishes a sheet.
-fn read(
-    bytes: &[u8],
-    book: &mut DayBook,
-    rows: &mut [SpanRow],
-    store: &mut [SpanRow],
-) -> Result<Read, Fault> {
-    let mut lent = Lent { book, rows, store };
-    let mut open = Open::open(bytes, &mut lent)?;
-    open.read_all(bytes, &mut lent)?;
-    match open.finish(bytes) {
-        Ok(read) => Ok(read),
-        Err((_open, fault)) => Err(fault),
-    }
-}
-
 // Reads, settles and prints a sheet.
 fn list(bytes: &[u8], out: &mut [u8]) -> Result<usize, Fault> {
     let mut book = DayBook::new();
     let mut rows = ROOM;
     let mut store = ROOM;
-    let sheet = read(bytes, &mut book, &mut rows, &mut store)?;
-    let verdict = sheet.settle(Lent {
-        book: &mut book,
-        rows: &mut rows,
-        store: &mut store,
-    })?;
-    let lent = Lent {
+    let mut lent = Lent {
         book: &mut book,
         rows: &mut rows,
         store: &mut store,
     };
+    let sheet = Read::whole(bytes, &mut lent)?;
+    let verdict = sheet.settle(&mut lent)?;
     sheet.print(verdict, &lent, out)
 }
 

@@ -1,6 +1,6 @@
 // Opening, reading and finishing a sheet.
 ghost use Rattle.std.specs.Prelude.{◌≡◌, ◌<◌, length, OnErr};
-ghost use Rattle.sheet.specs.Reading.{held, opened, view, added, took, outcome, reading, readings, quiet, finished};
+ghost use Rattle.sheet.specs.Reading.{held, opened, view, added, took, outcome, reading, readings, quiet, finished, whole};
 ghost use Rattle.sheet.specs.declared.item.Item.TheVariants as item;
 
 use super::{Open, Read, is_roomy};
@@ -149,5 +149,16 @@ impl Open {
             windows,
         } = self;
         Ok(Read { at, windows })
+    }
+}
+
+impl Read {
+    // Opens, reads and finishes a sheet.
+    pub fn whole(bytes: &[u8], lent: &mut Lent) -> Result<Read, Fault>
+        ensures { whole bytes.now (held lent.old) ≡ record { answer = result; after = held lent.new } }
+    {
+        let mut open = Open::open(bytes, lent)?;
+        open.read_all(bytes, lent)?;
+        open.finish(bytes).map_err(|(_open, fault)| fault)
     }
 }
