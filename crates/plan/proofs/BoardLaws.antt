@@ -1,6 +1,6 @@
 -- What a board's check tells.
-use Rattle.std.proofs.Common.{◌≡◌, ℕ, zero, suc, ◌+◌, ◌*◌, ◌<◌, ◌≤◌, Bool, true, false, cond, ◌&&◌, eqb, leb, ◌⊎◌, List, [], ◌∷◌, map, length, get_or, drop, ℤ, is_some, Some, None, Option, sym, refl, ap, ◌∙◌, subst, inl, inr, arith, MatchOption}
-use Rattle.std.proofs.lemmas.List.{drop_more, drop_all, length-map, get_or-map}
+use Rattle.std.proofs.Common.{◌≡◌, ℕ, zero, suc, ◌*◌, ◌<◌, ◌≤◌, Bool, true, false, cond, ◌&&◌, eqb, leb, ◌⊎◌, List, [], ◌∷◌, map, length, ℤ, Some, None, Option, sym, refl, ap, ◌∙◌, subst, inl, inr, arith}
+use Rattle.std.proofs.lemmas.List.{length-map}
 use Rattle.std.proofs.lemmas.Bool.{and_parts, and_from, and_left, and_right, leb-true, eqb-true, both_ways, cond-true, cond-false, le-leb, lt-leb}
 use Rattle.rulebook.specs.Tables.{Table, window, Every, filled, all_filled}
 use Rattle.plan.specs.Refusals.{is_table, board_refusal}
@@ -10,25 +10,6 @@ use Rattle.plan.specs.declared.answer.PlanRefusal.TheVariants.{Windows, Store, L
 filled_some : (s : List ℤ) → (s ≡ [] → ⊥) → filled s ≡ true
 filled_some [] h = absurd (h refl)
 filled_some (x ∷ s) h = refl
-
--- one row of the loop that tries them all
-front : {Row : Type 0} (stands : Row → List ℤ) (rows : List Row) (k : ℕ) (row : Row) → k < length rows → row ≡ get_or rows k row → all_filled (map stands (drop k rows)) ≡ (filled (stands row) && all_filled (map stands (drop (k + 1) rows)))
-front {Row} stands rows k row l e =
-    ap (λ (xs : List Row). all_filled (map stands xs)) (drop_more rows k row l) ∙ ap (λ (x : Row). filled (stands x) && all_filled (map stands (drop (k + 1) rows))) (sym e)
-
-pub row_fails : {Row : Type 0} {W : Type 0} (stands : Row → List ℤ) (numbers : W → List ℤ) (rows : List Row) (k : ℕ) (row : Row) (o : Option W) → k < length rows → row ≡ get_or rows k row → all_filled (map stands (drop k rows)) ≡ all_filled (map stands rows) → MatchOption o (stands row ≡ []) (λ w. numbers w ≡ stands row) → is_some o ≡ false → false ≡ all_filled (map stands rows)
-row_fails {Row} {W} stands numbers rows k row (Some w) l e inv told none = absurd (both_ways true none refl)
-row_fails {Row} {W} stands numbers rows k row None l e inv told none =
-    sym (ap (λ (s : List ℤ). filled s && all_filled (map stands (drop (k + 1) rows))) told) ∙ sym (front stands rows k row l e) ∙ inv
-
-pub row_passes : {Row : Type 0} {W : Type 0} (stands : Row → List ℤ) (numbers : W → List ℤ) (rows : List Row) (k : ℕ) (row : Row) (o : Option W) → ((w : W) → 0 < length (numbers w)) → k < length rows → row ≡ get_or rows k row → all_filled (map stands (drop k rows)) ≡ all_filled (map stands rows) → MatchOption o (stands row ≡ []) (λ w. numbers w ≡ stands row) → is_some o ≡ true → all_filled (map stands (drop (k + 1) rows)) ≡ all_filled (map stands rows)
-row_passes stands numbers rows k row None some l e inv told is = absurd (both_ways false refl is)
-row_passes stands numbers rows k row (Some w) some l e inv told is =
-    let f : filled (stands row) ≡ true = filled_some (stands row) (λ n. let p = some w in let q = ap length (told ∙ n) in omega arith) in
-    sym (front stands rows k row l e ∙ ap (λ (b : Bool). b && all_filled (map stands (drop (k + 1) rows))) f) ∙ inv
-
-pub rows_done : {Row : Type 0} (stands : Row → List ℤ) (rows : List Row) (k : ℕ) → length rows ≤ k → all_filled (map stands (drop k rows)) ≡ all_filled (map stands rows) → true ≡ all_filled (map stands rows)
-rows_done {Row} stands rows k l inv = sym (ap (λ (xs : List Row). all_filled (map stands xs)) (drop_all k rows l)) ∙ inv
 
 -- rows that pass are windows of the sets
 pub all_kinds : {Row : Type 0} (stands : Row → List ℤ) (sets : List ℤ → Type 0) (rows : List Row) → ((row : Row) → (stands row ≡ [] → ⊥) → sets (stands row)) → all_filled (map stands rows) ≡ true → Every sets (map stands rows)
@@ -96,10 +77,6 @@ filled_at (s ∷ T) (suc j) e l n = filled_at T j (and_parts (filled s) (all_fil
 pub all_filled_from : (sets : List ℤ → Type 0) (T : Table) → (sets [] → ⊥) → Every sets T → all_filled T ≡ true
 all_filled_from sets [] some k = refl
 all_filled_from sets (s ∷ T) some k = and_from (filled s) (all_filled T) (filled_some s (λ n. some (subst sets n (k 0 (omega arith))))) (all_filled_from sets T some (λ j l. k (suc j) (omega arith)))
-
--- a row's window, read from the table
-pub read_row : {Row W : Type 0} (stands : Row → List ℤ) (numbers : W → List ℤ) (rows : List Row) (j : ℕ) (row : Row) (o : Option W) → j < length rows → row ≡ get_or rows j row → MatchOption o (stands row ≡ []) (λ w. numbers w ≡ stands row) → MatchOption o (window (map stands rows) j ≡ []) (λ w. numbers w ≡ window (map stands rows) j)
-read_row {Row} {W} stands numbers rows j row o l e = subst (λ (s : List ℤ). MatchOption o (s ≡ []) (λ w. numbers w ≡ s)) (ap stands e ∙ sym (get_or-map stands rows j row [] l))
 
 -- one loan after the other: the rows and the store keep their names
 pub lends_both : {X : Type 0} {a b c a' b' c' : X} → (b ≡ a) × (b' ≡ a') → (c ≡ b) × (c' ≡ b') → (c ≡ a) × (c' ≡ a')

@@ -1,7 +1,8 @@
 -- Where a call returns: its equation, from what the questions answered.
-use Rattle.std.proofs.Common.{◌≡◌, ℕ, ◌<◌, Bool, true, false, cond, ltb, List, [], ◌∷◌, length, set, ℤ, Some, None, Ok, Err, Option, sym, refl, ap, ◌∙◌, subst, ⊎_elim, arith}
+use Rattle.std.proofs.Common.{◌≡◌, ℕ, ◌<◌, Bool, true, false, cond, ltb, List, [], ◌∷◌, length, set, ℤ, Some, None, Ok, Err, Option, sym, refl, ap, ◌∙◌, subst, ⊎_elim, arith, MatchOption}
 use Rattle.std.proofs.lemmas.List.{get_or_past}
 use Rattle.std.proofs.lemmas.Bool.{cond-true, cond-false, lt-ltb, le-ltb, ltb-true, cases_lt}
+use Rattle.std.specs.Option.{ok_or}
 use Rattle.windows.specs.Sets.{same_set, meet}
 use Rattle.rulebook.specs.Tables.{Table, window, all_filled}
 use Rattle.rulebook.specs.Rules.{Rule}
@@ -32,6 +33,25 @@ asked_next board next o e q = ap (λ x. or_else x next) (sym e) ∙ q
 pub none_asked : (board next : Option PlanRefusal) → or_else board next ≡ None → (board ≡ None) × (next ≡ None)
 none_asked (Some f) next e = absurd (let z : ◌≡◌ {A = ℕ} 0 1 = cc in omega arith)
 none_asked None next e = (refl, e)
+
+-- a value, or else this refusal
+pub some_or : {A : Type 0} (o : Option A) (f : PlanRefusal) (x : A) → Ok x ≡ ok_or o f → o ≡ Some x
+some_or None f x e = cc
+some_or (Some y) f x e = cc
+
+pub none_or : {A : Type 0} (o : Option A) (f g : PlanRefusal) → Err g ≡ ok_or o f → (o ≡ None) × (g ≡ f)
+none_or None f g e = (refl, cc)
+none_or (Some y) f g e = cc
+
+-- the window at j, or else the refusal that there is none
+module _ {W : Type 0} (numbers : W → List ℤ) (T : Table) (j : ℕ) where
+  pub window_there : (o : Option W) (w : W) → MatchOption o (window T j ≡ []) (λ x. numbers x ≡ window T j) → Ok w ≡ ok_or o refusal.Window → numbers w ≡ window T j
+  window_there None w h e = absurd (let z : ◌≡◌ {A = ℕ} 0 1 = cc in omega arith)
+  window_there (Some x) w h e = let q : w ≡ x = cc in ap numbers q ∙ h
+
+  pub window_gone : (o : Option W) (g : PlanRefusal) → MatchOption o (window T j ≡ []) (λ x. numbers x ≡ window T j) → Err g ≡ ok_or o refusal.Window → (window T j ≡ []) × (g ≡ refusal.Window)
+  window_gone None g h e = (h, cc)
+  window_gone (Some x) g h e = absurd (let z : ◌≡◌ {A = ℕ} 0 1 = cc in omega arith)
 
 -- ---- calls
 pub call_refused : {A : Type 0} (o : Option PlanRefusal) (f : PlanRefusal) (s : State) (c : Call A) → o ≡ Some f → unless o s c ≡ record { answer = Err f; after = s }

@@ -1,27 +1,35 @@
 -- Marks on states: what a marking adds to the copies, and how a mark is found.
-use Rattle.std.proofs.Common.{◌≡◌, ℕ, zero, suc, ◌+◌, ◌-◌, ◌*◌, ◌^◌, ◌<◌, ◌≤◌, Bool, true, false, cond, eqb, ltb, List, ◌∷◌, ◌++◌, map, length, get_or, take, drop, ℤ, Some, None, sym, refl, ap, ◌∙◌, subst, mul-le-mul_right, suc-mul, mul-le-mul, add-one, arith}
-use Rattle.std.proofs.lemmas.List.{length-take-le, length-drop, take-append-drop, take-append-le, drop-append-le, drop_at, take_at}
-use Rattle.std.proofs.lemmas.Bool.{cond-true, cond-false, eq-eqb, ne_eqb, lt-ltb, le-ltb}
+use Rattle.std.specs.Prelude.{◌≢◌}
+use Rattle.std.proofs.Common.{◌≡◌, ℕ, zero, suc, ◌+◌, ◌*◌, ◌^◌, ◌<◌, ◌≤◌, Bool, true, false, cond, eqb, ltb, ⊎_elim, List, [], ◌∷◌, ◌++◌, map, length, get_or, take, drop, ℤ, Some, None, Ok, Option, sym, refl, ap, ap₂, ◌∙◌, subst, mul-le-mul_right, suc-mul, mul-le-mul, add-one, arith}
+use Rattle.std.proofs.lemmas.List.{length-take, length-take-le, length-drop, length_push, get_or_push, get_or_append_left, get_or-take, take-append-drop, take-append-le, drop-append-le, drop_at, take_at}
+use Rattle.std.proofs.lemmas.Bool.{cond-true, cond-false, cases_eq, eq-eqb, ne_eqb, lt-ltb, le-ltb}
+use Rattle.std.specs.Option.{ok_or}
+use Rattle.bounded.specs.Lists.{items, Pushed, pushed}
+use Rattle.bounded.specs.declared.list.BoundedList.{BoundedList}
 use Rattle.rulebook.specs.Rules.{Rule}
 use Rattle.plan.specs.States.{State, Copy, state}
 use Rattle.plan.specs.Calls.{is_open, with_marks, keeping_at, restored, taking_back_at}
 use Rattle.rulebook.specs.Tables.{Table}
 use Rattle.plan.specs.Refusals.{mark_refusal, open_refusal}
-use Rattle.plan.specs.Views.{no_slot, found, Pushed, copy_at, copies, stored}
+use Rattle.plan.specs.Views.{no_slot, found, copy_at, copies, stored}
 use Rattle.plan.specs.declared.answer.PlanRefusal.TheVariants.{Marks, Handed, Ended}
 use Rattle.plan.specs.declared.status.Slot.{Slot}
+use Rattle.plan.proofs.CallExits.{some_or}
 
-pub found_step : (slots : List Slot) (m k : ℕ) → 0 < k → found slots m k ≡ cond (eqb m (get_or slots (k - 1) no_slot).number) (Some (k - 1)) (found slots m (k - 1))
-found_step slots m zero l = absurd (omega arith)
-found_step slots m (suc k) l =
-    let e : k ≡ suc k - 1 = omega arith in
-    ap (λ (i : ℕ). cond (eqb m (get_or slots i no_slot).number) (Some i) (found slots m i)) e
+-- what a search from the end tells
+pub found_none : (slots : List Slot) (m d : ℕ) → ((k : ℕ) → k < d → (get_or slots k no_slot).number ≢ m) → found slots m d ≡ None
+found_none slots m zero none = refl
+found_none slots m (suc d) none = cond-false (eqb m (get_or slots d no_slot).number) (Some d) (found slots m d) (ne_eqb m (get_or slots d no_slot).number (λ e. none d (omega arith) (sym e))) ∙ found_none slots m d (λ k l. none k (omega arith))
 
-pub found_here : (slots : List Slot) (m k d : ℕ) → 0 < k → (get_or slots (k - 1) no_slot).number ≡ m → found slots m k ≡ found slots m d → Some (k - 1) ≡ found slots m d
-found_here slots m k d l e inv = sym (found_step slots m k l ∙ cond-true (eqb m (get_or slots (k - 1) no_slot).number) (Some (k - 1)) (found slots m (k - 1)) (eq-eqb m (get_or slots (k - 1) no_slot).number (sym e))) ∙ inv
+pub found_some : (slots : List Slot) (m d i : ℕ) → i < d → (get_or slots i no_slot).number ≡ m → ((k : ℕ) → i + 1 ≤ k → k < d → (get_or slots k no_slot).number ≢ m) → found slots m d ≡ Some i
+found_some slots m zero i l e none = absurd (omega arith)
+found_some slots m (suc d) i l e none = ⊎_elim here (below (found_some slots m d i)) (cases_eq i d)
+  where
+    here : i ≡ d → found slots m (suc d) ≡ Some i
+    here q = cond-true (eqb m (get_or slots d no_slot).number) (Some d) (found slots m d) (eq-eqb m (get_or slots d no_slot).number (sym (rw q at e))) ∙ ap Some (sym q)
 
-pub found_not : (slots : List Slot) (m k d : ℕ) → 0 < k → ((get_or slots (k - 1) no_slot).number ≡ m → ⊥) → found slots m k ≡ found slots m d → found slots m (k - 1) ≡ found slots m d
-found_not slots m k d l e inv = sym (found_step slots m k l ∙ cond-false (eqb m (get_or slots (k - 1) no_slot).number) (Some (k - 1)) (found slots m (k - 1)) (ne_eqb m (get_or slots (k - 1) no_slot).number (λ q. e (sym q)))) ∙ inv
+    below : (i < d → (get_or slots i no_slot).number ≡ m → ((k : ℕ) → i + 1 ≤ k → k < d → (get_or slots k no_slot).number ≢ m) → found slots m d ≡ Some i) → (i ≡ d → ⊥) → found slots m (suc d) ≡ Some i
+    below ih n = cond-false (eqb m (get_or slots d no_slot).number) (Some d) (found slots m d) (ne_eqb m (get_or slots d no_slot).number (λ q. none d (omega arith) (omega arith) (sym q))) ∙ ih (omega arith) e (λ k a b. none k a (omega arith))
 
 pub found_below : (slots : List Slot) (m d k : ℕ) → found slots m d ≡ Some k → k < d
 found_below slots m zero k e = absurd (let z : ◌≡◌ {A = ℕ} 0 1 = cc in omega arith)
@@ -30,6 +38,13 @@ found_below slots m (suc d) k e = go (eqb m (get_or slots d no_slot).number) (fo
     go : (b : Bool) → (found slots m d ≡ Some k → k < d) → cond b (Some d) (found slots m d) ≡ Some k → k < suc d
     go true ih e = let q : d ≡ k = cc in omega arith
     go false ih e = let h = ih e in omega arith
+
+-- a mark that was found stands at its place
+pub placed : (l : BoundedList Slot 16) (m k : ℕ) (o : Option ℕ) → o ≡ found (items l) m (length (items l)) → Ok k ≡ ok_or o Ended → (found (items l) m (length (items l)) ≡ Some k) × (k < length (items l)) × (k < 16)
+placed l m k o e q =
+    let f : found (items l) m (length (items l)) ≡ Some k = sym e ∙ some_or o Ended k q in
+    let b = found_below (items l) m (length (items l)) k f in
+    (f, b, omega (arith, b, l.few, length-take l.len l.slots))
 
 module _ {Row : Type 0} (stands : Row → List ℤ) (slots : List Slot) (n : ℕ) (store : List Row) (m : ℕ) where
   pub copies_long : (d : ℕ) → length (copies stands slots n store d) ≡ d
@@ -81,28 +96,43 @@ stored_before {Row} store rows from b n l m = front (rows ++ drop (from + length
 stored_here : {Row : Type 0} (store rows : List Row) (from : ℕ) → from ≤ length store → take (length rows) (drop from (stored store from rows)) ≡ rows
 stored_here {Row} store rows from m = ap (take (length rows)) (drop_at (take from store) (rows ++ drop (from + length rows) store) from (length-take-le from store m)) ∙ take_at rows (drop (from + length rows) store) (length rows) refl
 
+-- copies of the first marks
+same_marks : {Row : Type 0} (stands : Row → List ℤ) (xs ys : List Slot) (n : ℕ) (store : List Row) (d : ℕ) → ((k : ℕ) → k < d → get_or xs k no_slot ≡ get_or ys k no_slot) → copies stands xs n store d ≡ copies stands ys n store d
+same_marks stands xs ys n store zero e = refl
+same_marks {Row} stands xs ys n store (suc d) e = ap₂ {C = List Copy} (λ (x : Slot) cs. record { number = x.number; count = x.count; impossible = x.impossible; table = map stands (take n (drop (d * n) store)) } ∷ cs) (e d (omega arith)) (same_marks stands xs ys n store d (λ k l. e k (omega arith)))
+
+pub closed_copies : {Row : Type 0} (stands : Row → List ℤ) (xs ys : List Slot) (n : ℕ) (store : List Row) (k : ℕ) → k ≤ length xs → ys ≡ take k xs → copies stands ys n store (length ys) ≡ copies stands xs n store k
+closed_copies stands xs ys n store k l e = ap (λ zs. copies stands zs n store (length zs)) e ∙ ap (copies stands (take k xs) n store) (length-take-le k xs l) ∙ same_marks stands (take k xs) xs n store k (λ i b. get_or-take k xs i no_slot b)
+
+-- what a push leaves where there is room
+pub pushed_mark : (xs ys : List Slot) (x : Slot) (o : Option ℕ) → length xs < 16 → pushed 16 xs x ≡ record { answer = o; after = ys } → ys ≡ xs ++ (x ∷ [])
+pushed_mark xs ys x o l e = sym (ap (λ (p : Pushed Slot). p.after) (sym (cond-true (ltb (length xs) 16) (record { answer = Some (length xs); after = xs ++ (x ∷ []) }) (record { answer = None; after = xs }) (lt-ltb (length xs) 16 l)) ∙ e))
+
 -- the copies after a marking: the new one first
-pub pushed_copies : {Row : Type 0} (stands : Row → List ℤ) (old new : List Slot) (store rows : List Row) (d : ℕ) (slot : Slot) → Pushed old new d slot → d * length rows ≤ length store → copies stands new (length rows) (stored store (d * length rows) rows) (d + 1) ≡ record { number = slot.number; count = slot.count; impossible = slot.impossible; table = map stands rows } ∷ copies stands old (length rows) store d
-pushed_copies {Row} stands old new store rows d slot p m = ap (copies stands new n after) (add-one d) ∙ top ∙ ap (λ (cs : List Copy). record { number = slot.number; count = slot.count; impossible = slot.impossible; table = map stands rows } ∷ cs) (below d (omega arith))
+pub pushed_copies : {Row : Type 0} (stands : Row → List ℤ) (old new : List Slot) (store rows : List Row) (slot : Slot) → new ≡ old ++ (slot ∷ []) → length old * length rows ≤ length store → copies stands new (length rows) (stored store (length old * length rows) rows) (length new) ≡ record { number = slot.number; count = slot.count; impossible = slot.impossible; table = map stands rows } ∷ copies stands old (length rows) store (length old)
+pushed_copies {Row} stands old new store rows slot e m = ap (copies stands new n after) (ap length e ∙ length_push old slot ∙ add-one d) ∙ ap₂ {C = List Copy} (λ (x : Slot) (t : List Row). record { number = x.number; count = x.count; impossible = x.impossible; table = map stands t } ∷ copies stands new n after d) top (stored_here store rows (d * n) m) ∙ ap (λ (cs : List Copy). record { number = slot.number; count = slot.count; impossible = slot.impossible; table = map stands rows } ∷ cs) (same_marks stands new old n after d below ∙ kept d (omega arith))
   where
+    d : ℕ
+    d = length old
+
     n : ℕ
     n = length rows
 
     after : List Row
     after = stored store (d * n) rows
 
-    top : copies stands new n after (suc d) ≡ record { number = slot.number; count = slot.count; impossible = slot.impossible; table = map stands rows } ∷ copies stands new n after d
-    top = ap (λ (x : Slot). record { number = x.number; count = x.count; impossible = x.impossible; table = map stands (take n (drop (d * n) after)) } ∷ copies stands new n after d) p.top ∙ ap (λ (t : List Row). record { number = slot.number; count = slot.count; impossible = slot.impossible; table = map stands t } ∷ copies stands new n after d) (stored_here store rows (d * n) m)
+    top : get_or new d no_slot ≡ slot
+    top = ap (λ xs. get_or xs d no_slot) e ∙ get_or_push old slot no_slot d refl
 
-    each : (k : ℕ) → k < d → copy_at stands new n after k ≡ copy_at stands old n store k
-    each k l =
+    below : (k : ℕ) → k < d → get_or new k no_slot ≡ get_or old k no_slot
+    below k l = ap (λ xs. get_or xs k no_slot) e ∙ get_or_append_left old (slot ∷ []) no_slot k l
+
+    kept : (k : ℕ) → k ≤ d → copies stands old n after k ≡ copies stands old n store k
+    kept zero l = refl
+    kept (suc k) l =
         let room : suc k * n ≤ d * n = mul-le-mul_right n l in
         let room' : k * n + n ≤ d * n = rw (← suc-mul k n) room in
-        ap {B = Copy} (λ (x : Slot). record { number = x.number; count = x.count; impossible = x.impossible; table = map stands (take n (drop (k * n) after)) }) (p.below k l) ∙ ap {B = Copy} (λ (t : List Row). record { number = (get_or old k no_slot).number; count = (get_or old k no_slot).count; impossible = (get_or old k no_slot).impossible; table = map stands t }) (stored_before store rows (d * n) (k * n) n room' m)
-
-    below : (k : ℕ) → k ≤ d → copies stands new n after k ≡ copies stands old n store k
-    below zero l = refl
-    below (suc k) l = ap (λ (x : Copy). x ∷ copies stands new n after k) (each k l) ∙ ap (λ (cs : List Copy). copy_at stands old n store k ∷ cs) (below k (omega arith))
+        ap₂ {C = List Copy} (λ (t : List Row) cs. record { number = (get_or old k no_slot).number; count = (get_or old k no_slot).count; impossible = (get_or old k no_slot).impossible; table = map stands t } ∷ cs) (stored_before store rows (d * n) (k * n) n room' m) (kept k (omega arith))
 
 pub same_copies : {Row : Type 0} (stands : Row → List ℤ) {s t : List Row} {a b : List Slot} {m n j k : ℕ} → s ≡ t → a ≡ b → m ≡ n → j ≡ k → copies stands a m s j ≡ copies stands b n t k
 same_copies {Row} stands {s} {t} {a} {b} {m} {n} {j} {k} o p q r = ap (λ (x : List Row). copies stands a m x j) o ∙ ap (λ (x : List Slot). copies stands x m t j) p ∙ ap (λ (x : ℕ). copies stands b x t j) q ∙ ap (copies stands b n t) r
@@ -130,9 +160,9 @@ has_ended m s e = cond-false (is_open m s.marks) None (Some Ended) e
 pub room_for : (d n long : ℕ) → d < 16 → 16 * n ≤ long → d * n + n ≤ long
 room_for d n long l m = let h : suc d * n ≤ 16 * n = mul-le-mul_right n l in omega (arith, suc-mul d n)
 
-pub marked_copies : {Row : Type 0} (stands : Row → List ℤ) (old new : List Slot) (store store' rows : List Row) (d d' n n' : ℕ) (slot : Slot) → Pushed old new d slot → length rows ≡ n → n' ≡ n → d' ≡ d + 1 → store' ≡ stored store (d * n) rows → d * n ≤ length store → copies stands new n' store' d' ≡ record { number = slot.number; count = slot.count; impossible = slot.impossible; table = map stands rows } ∷ copies stands old n store d
-marked_copies {Row} stands old new store store' rows d d' n n' slot p e n-is d-is Store-is room =
-    ap (λ (x : ℕ). copies stands new x store' d') (n-is ∙ sym e) ∙ ap (λ (x : List Row). copies stands new (length rows) x d') (Store-is ∙ ap (λ (x : ℕ). stored store (d * x) rows) (sym e)) ∙ ap (copies stands new (length rows) (stored store (d * length rows) rows)) d-is ∙ pushed_copies stands old new store rows d slot p (subst (λ (x : ℕ). d * x ≤ length store) (sym e) room) ∙ ap (λ (x : ℕ). record { number = slot.number; count = slot.count; impossible = slot.impossible; table = map stands rows } ∷ copies stands old x store d) e
+pub marked_copies : {Row : Type 0} (stands : Row → List ℤ) (old new : List Slot) (store store' rows : List Row) (n : ℕ) (slot : Slot) → new ≡ old ++ (slot ∷ []) → length rows ≡ n → store' ≡ stored store (length old * n) rows → length old * n ≤ length store → copies stands new n store' (length new) ≡ record { number = slot.number; count = slot.count; impossible = slot.impossible; table = map stands rows } ∷ copies stands old n store (length old)
+marked_copies {Row} stands old new store store' rows n slot pushed e kept room =
+    ap (λ (x : List Row). copies stands new n x (length new)) kept ∙ subst (λ (x : ℕ). length old * x ≤ length store → copies stands new x (stored store (length old * x) rows) (length new) ≡ record { number = slot.number; count = slot.count; impossible = slot.impossible; table = map stands rows } ∷ copies stands old x store (length old)) e (pushed_copies stands old new store rows slot pushed) room
 
 pub room_at : (d n long r : ℕ) → r ≡ n → d < 16 → 16 * r ≤ long → d * n + r ≤ long
 room_at d n long r e l m = let h = room_for d r long l m in omega (arith, ap (λ (x : ℕ). d * x) e)

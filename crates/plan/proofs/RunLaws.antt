@@ -1,12 +1,12 @@
 -- The loop that settles, turn by turn: what it has left to do is the rest of the run.
-use Rattle.std.proofs.Common.{◌≡◌, ℕ, zero, suc, ◌+◌, ◌-◌, ◌*◌, ◌^◌, ◌<◌, ◌≤◌, Bool, true, false, ◌&&◌, ltb, List, [], ◌∷◌, length, get_or, ℤ, Some, None, Option, sym, refl, ap, ◌∙◌, subst, ⊎_elim, mul-le-mul, add-one, arith}
+use Rattle.std.proofs.Common.{◌≡◌, ℕ, zero, suc, ◌+◌, ◌-◌, ◌*◌, ◌^◌, ◌<◌, ◌≤◌, true, false, ◌&&◌, ltb, List, [], ◌∷◌, length, get_or, ℤ, Some, None, Ok, Err, Option, sym, refl, ap, ◌∙◌, subst, ⊎_elim, mul-le-mul, add-one, arith}
 use Rattle.std.proofs.lemmas.Bool.{cond-true, and_left, le-ltb, cases_lt}
 use Rattle.windows.specs.Sets.{sizes}
 use Rattle.rulebook.specs.Tables.{Table, Every, differs, all_filled}
 use Rattle.rulebook.specs.Rules.{Rule, Outcome, narrowed, emptied, missing, Lawful}
 use Rattle.rulebook.specs.Answers.{any, bit, member, outcome, Tells}
 use Rattle.rulebook.specs.declared.set.WindowSet.{WindowSet}
-use Rattle.rulebook.specs.declared.answer.Narrowing.TheVariants.{Changed, Emptied}
+use Rattle.rulebook.specs.declared.answer.Emptied.{Emptied}
 use Rattle.policies.specs.Waiting.{remove, Chooses, puts, Taken, taking}
 use Rattle.plan.specs.States.{Copy, state}
 use Rattle.plan.specs.Settling.{touched, woken, went, stuck, narrowing, step, Run, onward, run, Runs}
@@ -111,13 +111,13 @@ module _ (sets : List ℤ → Type 0) (choice : List ℕ → ℕ) (proper : Prop
       omega arith
 
 -- what a narrowing of these windows told
-pub told_changed : (T U : Table) (o : Outcome) (m : WindowSet) → Tells T o (Changed m) U → (o ≡ narrowed U) × ((j : ℕ) → member m j ≡ differs T U j)
+pub told_changed : (T U : Table) (o : Outcome) (m : WindowSet) → Tells T o (Ok m) U → (o ≡ narrowed U) × ((j : ℕ) → member m j ≡ differs T U j)
 told_changed T U (narrowed V) m t = (ap narrowed (sym t.0), t.1)
 told_changed T U (emptied j) m t = absurd t
 
-pub told_emptied : (T U : Table) (o : Outcome) (k : ℕ) → Tells T o (Emptied k) U → (o ≡ emptied k) × (U ≡ T)
-told_emptied T U (narrowed V) k t = absurd t
-told_emptied T U (emptied j) k t = (ap emptied (sym t.0), t.1)
+pub told_emptied : (T U : Table) (o : Outcome) (e : Emptied) → Tells T o (Err e) U → (o ≡ emptied e.window) × (U ≡ T)
+told_emptied T U (narrowed V) e t = absurd t
+told_emptied T U (emptied j) e t = (ap emptied (sym t.0), t.1)
 
 pub outcome_is : (sets : List ℤ → Type 0) (r : Rule) (T : Table) → ProperSets sets → Every sets T → outcome r T ≡ r.narrow T
 outcome_is sets r T proper k = cond-true (all_filled T) (r.narrow T) (narrowed T) (all_filled_from sets T proper.some k)
@@ -128,10 +128,6 @@ nothing_woken rules m n w e = puts_none (wakes rules m n) (length rules) w (λ i
   where
     absent : (j : ℕ) → member m j ≡ false
     absent j = ⊎_elim (λ l. any_none (member m) 64 j e l) (λ l. and_left (ltb j 64) (bit m.mask j) (le-ltb j 64 l)) (cases_lt j 64)
-
--- the loop that puts has come to its end
-pub puts_end : (f : ℕ → Bool) (i n m : ℕ) (u w : List ℕ) → w ≡ puts f i u → n ≤ i → i ≤ n → n ≡ m → w ≡ puts f m u
-puts_end f i n m u w e l k q = e ∙ ap (λ x. puts f x u) (omega arith)
 
 -- the set is that of the changed windows
 changed_woken : (rules : List Rule) (T U : Table) (m : WindowSet) (n : ℕ) (w v : List ℕ) → n ≡ length T → ((j : ℕ) → member m j ≡ differs T U j) → v ≡ puts (wakes rules m n) (length rules) w → v ≡ woken rules T U w
@@ -152,14 +148,14 @@ module _ (sets : List ℤ → Type 0) (choice : List ℕ → ℕ) (proper : Prop
   is_outcome : outcome (get_or rules i missing) T ≡ (get_or rules i missing).narrow T
   is_outcome = outcome_is sets (get_or rules i missing) T proper r.kinds
 
-  pub changed_turn : (v : List ℕ) (m : WindowSet) (windows : ℕ) → windows ≡ length T → Tells T (outcome (get_or rules i missing) T) (Changed m) U → v ≡ puts (wakes rules m windows) (length rules) u → Turned sets choice rules w₀ T₀ n w T v U
+  pub changed_turn : (v : List ℕ) (m : WindowSet) (windows : ℕ) → windows ≡ length T → Tells T (outcome (get_or rules i missing) T) (Ok m) U → v ≡ puts (wakes rules m windows) (length rules) u → Turned sets choice rules w₀ T₀ n w T v U
   changed_turn v m windows l tells woke =
       let t = told_changed T U (outcome (get_or rules i missing) T) m tells in
       let q : (get_or rules i missing).narrow T ≡ narrowed U = sym is_outcome ∙ t.0 in
       let y : v ≡ woken rules T U (left choice w) = changed_woken rules T U m windows (left choice w) v l t.1 (woke ∙ ap (puts (wakes rules m windows) (length rules)) is_left) in
       record { again = turned sets choice proper chooses rules few lawful w₀ T₀ n w T U i v r is_taken q y; less = falls sets choice proper chooses rules few lawful w T U i v r.kinds is_taken q y }
 
-  pub emptied_end : (j : ℕ) → Tells T (outcome (get_or rules i missing) T) (Emptied j) U → Runs choice rules w₀ T₀ (Impossible (n + 1) i j) u U
-  emptied_end j tells =
-      let t = told_emptied T U (outcome (get_or rules i missing) T) j tells in
-      emptied_turn sets choice proper chooses rules few lawful w₀ T₀ n w T U i j u r is_taken (sym is_outcome ∙ t.0) is_left t.1
+  pub emptied_end : (f : Emptied) → Tells T (outcome (get_or rules i missing) T) (Err f) U → Runs choice rules w₀ T₀ (Impossible (n + 1) i f.window) u U
+  emptied_end f tells =
+      let t = told_emptied T U (outcome (get_or rules i missing) T) f tells in
+      emptied_turn sets choice proper chooses rules few lawful w₀ T₀ n w T U i f.window u r is_taken (sym is_outcome ∙ t.0) is_left t.1

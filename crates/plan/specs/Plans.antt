@@ -1,7 +1,9 @@
 -- The state of a plan with its board.
-use Rattle.std.specs.Prelude.{◌≡◌, ℕ, List, map, ℤ, Some, None, Option}
+use Rattle.std.specs.Prelude.{◌≡◌, List, map, ℤ, Some, None, Option}
+use Rattle.windows.specs.declared.window.Window.{Ghosts as Windows}
 use Rattle.rulebook.specs.Tables.{Table}
-use Rattle.rulebook.specs.Rules.{Rule}
+use Rattle.rulebook.specs.declared.rulebook.RuleBook.{Ghosts as Rules}
+use Rattle.policies.specs.declared.policy.Policy.{Ghosts as Waits}
 use Rattle.plan.specs.States.{State}
 use Rattle.plan.specs.Views.{view}
 use Rattle.plan.specs.declared.answer.PlanRefusal.{PlanRefusal}
@@ -13,8 +15,8 @@ abbrev pub table : {W Row : Type 0} → (Row → List ℤ) → Board W Row → T
 table stands board = map stands board.rows.now
 
 -- a plan and its board, by what their rules, waiting lists and rows mean
-abbrev pub state_of : {B P W Row X Y Z : Type 0} → (B → List Rule) → (P → List ℕ) → (Row → List ℤ) → Plan B P X Y Z → Board W Row → State
-state_of rules waiting stands plan board = view stands (rules plan.book) (waiting plan.policy) plan.status board.rows.now board.store.now
+abbrev pub state_of : {B P W Row X Y Z : Type 0} → Rules B W X Row → Waits P → Windows W Row → Plan B P W Y Z → Board W Row → State
+state_of book policy kind plan board = view kind.stands (book.rules plan.book) (policy.waiting plan.policy) plan.status board.rows.now board.store.now
 
 -- what holds of a refused making
 abbrev pub IfRefused : Option PlanRefusal → Type 0 → Type 0

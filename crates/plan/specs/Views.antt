@@ -1,5 +1,6 @@
 -- The state of a plan's parts: rules, waiting list, status, rows and store.
-use Rattle.std.specs.Prelude.{◌≡◌, ℕ, zero, suc, ◌+◌, ◌*◌, ◌<◌, false, cond, List, [], ◌∷◌, ◌++◌, map, length, get_or, take, drop, ℤ, Some, None, Ok, Err, Option, Result, ◌==◌, slice_index_or}
+use Rattle.std.specs.Prelude.{◌≡◌, ℕ, zero, suc, ◌+◌, ◌*◌, false, cond, List, [], ◌∷◌, ◌++◌, map, length, get_or, take, drop, ℤ, Some, None, Ok, Err, Option, Result, ◌==◌}
+use Rattle.bounded.specs.Lists.{items}
 use Rattle.rulebook.specs.Rules.{Rule}
 use Rattle.plan.specs.States.{State, Copy, state}
 use Rattle.plan.specs.declared.status.Slot.{Slot}
@@ -14,11 +15,6 @@ abbrev pub found : List Slot → ℕ → ℕ → Option ℕ
 found slots m zero = None
 found slots m (suc k) = cond (m == (get_or slots k no_slot).number) (Some k) (found slots m k)
 
--- slot d is set, and the ones below stay
-pub record Pushed (old new : List Slot) (d : ℕ) (slot : Slot) : Type 0 where
-  pub top : get_or new d no_slot ≡ slot
-  pub below : (k : ℕ) → k < d → slice_index_or new k no_slot ≡ slice_index_or old k no_slot
-
 -- what open mark k has copied; its table stands in the store from k * n on
 abbrev pub copy_at : {Row : Type 0} → (Row → List ℤ) → List Slot → ℕ → List Row → ℕ → Copy
 copy_at stands slots n store k = record { number = (get_or slots k no_slot).number; count = (get_or slots k no_slot).count; impossible = (get_or slots k no_slot).impossible; table = map stands (take n (drop (k * n) store)) }
@@ -30,7 +26,7 @@ copies stands slots n store (suc k) = copy_at stands slots n store k ∷ copies 
 
 -- the state of these parts
 abbrev pub view : {Row : Type 0} → (Row → List ℤ) → List Rule → List ℕ → Status → List Row → List Row → State
-view stands rules w status rows store = state rules w status.impossible (map stands rows) status.windows (copies stands status.slots status.windows store status.depth) status.handed
+view stands rules w status rows store = state rules w status.impossible (map stands rows) status.windows (copies stands (items status.marks) status.windows store (length (items status.marks))) status.handed
 
 -- a store with a table written over it from `from` on
 abbrev pub stored : {Row : Type 0} → List Row → ℕ → List Row → List Row

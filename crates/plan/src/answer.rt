@@ -1,6 +1,7 @@
 // What the calls of a plan answer.
 ghost use Rattle.std.specs.Prelude.{◌≡◌};
 ghost use Rattle.plan.specs.Numbers.{plan_number};
+ghost use Rattle.plan.specs.declared.answer.PlanRefusal.TheVariants.{Book};
 
 use rulebook::BookRefusal;
 
@@ -54,8 +55,16 @@ pub enum PlanRefusal {
     Book(BookRefusal),
 }
 
+impl From<BookRefusal> for PlanRefusal {
+    ghost from_gives = { λ f e. e ≡ Book f };
+
+    fn from(refusal: BookRefusal) -> PlanRefusal {
+        PlanRefusal::Book(refusal)
+    }
+}
+
 impl PlanRefusal {
-    // The number that the refusal is told by.
+    // The number that the refusal is told by. It is a match, and no discriminant: one variant holds a book's refusal.
     pub fn number(&self) -> u8
         ensures { result ≡ plan_number self.now }
     {

@@ -1,9 +1,10 @@
 // A board: a lent table of windows of any one kind, as rows, and beside it a lent store for marks.
-ghost use Rattle.std.specs.Prelude.{◌≡◌, [], map, length, MatchOption, ◌==◌, nat_le};
-ghost use Rattle.rulebook.specs.Tables.{window, all_filled};
+ghost use Rattle.std.specs.Prelude.{◌≡◌, map, length, ◌==◌, nat_le};
+ghost use Rattle.std.specs.Result.{result_err};
 ghost use Rattle.plan.specs.Refusals.{is_table, board_refusal};
 
 use crate::answer::PlanRefusal;
+use rulebook::all_windows;
 use windows::Window;
 
 #[derive(Drop)]
@@ -12,70 +13,43 @@ pub struct Board<'a, W: Window> {
     pub store: &'a mut [W::Row],
 }
 
-// Is every row a window?
-fn all_windows<W: Window>(rows: &[W::Row]) -> bool
-    ensures { result ≡ all_filled (map W.Window.stands rows.now) }
-{
-    for row in rows {
-        if W::from_row(*row).is_none() {
-            return false;
-        }
-    }
-    true
-}
-
 // 1 to 64 windows?
 fn is_table<W: Window>(rows: &[W::Row]) -> bool
     ensures { result ≡ is_table (map W.Window.stands rows.now) }
 {
-    if rows.len() < 1 || rows.len() > 64 {
-        return false;
-    }
-    all_windows::<W>(rows)
+    1 <= rows.len() && rows.len() <= 64 && all_windows::<W>(rows)
 }
 
-// What rows with a store of this length are refused for; `wanted` says whether there are as many as wanted.
-pub fn refusal<W: Window>(rows: &[W::Row], stored: usize, wanted: bool) -> Option<PlanRefusal>
-    ensures { result ≡ board_refusal (map W.Window.stands rows.now) stored wanted }
+// Refuses rows with a store of this length; `wanted` says whether there are as many as wanted.
+fn check<W: Window>(rows: &[W::Row], stored: usize, wanted: bool) -> Result<(), PlanRefusal>
+    ensures { result_err result ≡ board_refusal (map W.Window.stands rows.now) stored wanted }
 {
     if !is_table::<W>(rows) {
-        return Some(PlanRefusal::Windows);
+        return Err(PlanRefusal::Windows);
     }
     if stored < 16 * rows.len() {
-        return Some(PlanRefusal::Store);
+        return Err(PlanRefusal::Store);
     }
     if !wanted {
-        return Some(PlanRefusal::Length);
+        return Err(PlanRefusal::Length);
     }
-    None
-}
-
-// The window that row j stands for, or none where it is not there or fails its check.
-pub fn window_at<W: Window>(rows: &[W::Row], j: usize) -> Option<W>
-    ensures { MatchOption result (window (map W.Window.stands rows.now) j ≡ []) (λ w. W.Window.numbers w ≡ window (map W.Window.stands rows.now) j) }
-{
-    if j >= rows.len() {
-        return None;
-    }
-    W::from_row(rows[j])
+    Ok(())
 }
 
 impl<'a, W: Window> Board<'a, W> {
-    // What the board is refused for by a plan for so many windows.
-    pub fn refusal(&self, windows: usize) -> Option<PlanRefusal>
-        ensures { let T = map W.Window.stands self.now.rows.now in result ≡ board_refusal T (length self.now.store.now) (length T == windows) }
+    // Refuses the board where a plan for so many windows does.
+    pub fn check(&self, windows: usize) -> Result<(), PlanRefusal>
+        ensures { let T = map W.Window.stands self.now.rows.now in result_err result ≡ board_refusal T (length self.now.store.now) (length T == windows) }
     {
         let wanted = self.rows.len() == windows;
-        let stored = self.store.len();
-        refusal::<W>(self.rows, stored, wanted)
+        check::<W>(self.rows, self.store.len(), wanted)
     }
 
-    // What the board is refused for by the making of a plan whose rules reach so far.
-    pub fn refusal_for(&self, reach: usize) -> Option<PlanRefusal>
-        ensures { let T = map W.Window.stands self.now.rows.now in result ≡ board_refusal T (length self.now.store.now) (nat_le reach (length T)) }
+    // Refuses the board where the making of a plan does whose rules reach so far.
+    pub fn check_reach(&self, reach: usize) -> Result<(), PlanRefusal>
+        ensures { let T = map W.Window.stands self.now.rows.now in result_err result ≡ board_refusal T (length self.now.store.now) (nat_le reach (length T)) }
     {
         let wanted = reach <= self.rows.len();
-        let stored = self.store.len();
-        refusal::<W>(self.rows, stored, wanted)
+        check::<W>(self.rows, self.store.len(), wanted)
     }
 }

@@ -20,7 +20,7 @@ fn cut_and_settle<B: RuleBook, P: Policy>(
     j: usize,
     window: B::Kind,
 ) -> Result<Verdict, PlanRefusal>
-    ensures equation { let see = state_of B.RuleBook.rules P.Policy.waiting B.Kind.Window.stands in
+    ensures equation { let see = state_of B.RuleBook P.Policy B.Kind.Window in
         cut_and_settle P.Policy.choice j (B.Kind.Window.numbers window) (length board.old.store.now) (see plan.old board.old)
         ≡ record { answer = result; after = see plan.new board.new } }
     ensures store { board.new.store.now ≡ board.old.store.now }
@@ -37,21 +37,19 @@ pub fn try_cut<B: RuleBook, P: Policy>(
     j: usize,
     window: B::Kind,
 ) -> Result<Verdict, PlanRefusal>
-    ensures equation { let see = state_of B.RuleBook.rules P.Policy.waiting B.Kind.Window.stands in
+    ensures equation { let see = state_of B.RuleBook P.Policy B.Kind.Window in
         try_call P.Policy.choice j (B.Kind.Window.numbers window) (length board.old.store.now) (see plan.old board.old)
         ≡ record { answer = result; after = see plan.new board.new } }
-    ensures rows { let s = state_of B.RuleBook.rules P.Policy.waiting B.Kind.Window.stands plan.old board.old in
+    ensures rows { let s = state_of B.RuleBook P.Policy B.Kind.Window plan.old board.old in
         Untouched (mark_call (length board.old.store.now) s).answer board.old.rows.now board.new.rows.now }
-    ensures store { let s = state_of B.RuleBook.rules P.Policy.waiting B.Kind.Window.stands plan.old board.old in
+    ensures store { let s = state_of B.RuleBook P.Policy B.Kind.Window plan.old board.old in
         board.new.store.now ≡ store_after (mark_call (length board.old.store.now) s).answer board.old.store.now (length s.marks * s.windows) board.old.rows.now }
     ensures lent { LendsOn board.old board.new }
-    ensures asked { let see = state_of B.RuleBook.rules P.Policy.waiting B.Kind.Window.stands in
+    ensures asked { let see = state_of B.RuleBook P.Policy B.Kind.Window in
         Carries B.RuleBook.sets P.Policy.choice ask_same (see plan.old board.old) (see plan.new board.new) }
 {
     let mark = plan.mark(board)?;
     let answer = cut_and_settle(plan, board, j, window);
-    match plan.take_back(board, mark) {
-        Ok(_) => answer,
-        Err(ended) => Err(ended),
-    }
+    plan.take_back(board, mark)?;
+    answer
 }

@@ -14,18 +14,18 @@ use Rattle.plan.proofs.MarkLaws.{same_state}
 use Rattle.plan.proofs.CallLaws.{reached_holds}
 use Rattle.plan.proofs.plan.Plan.make.Goals as goal
 
-pub returns-in-Some : goal.returns-in-Some
-returns-in-Some g c =
+pub returns-in-Err : goal.returns-in-Err
+returns-in-Err g c =
     let stands = g.B.Kind.Window.stands in
     let rules = g.B.RuleBook.rules c.args.book in
     let w = g.P.Policy.waiting c.args.policy in
     let store = c.args.board.now.store.now in
     let T = map stands c.args.board.now.rows.now in
     let status = c.new-status.result in
-    let e : make_refused rules T (length store) ≡ Some c.in-Some.refused = sym (c.in-Some.ensures ∙ ap (λ (n : ℕ). board_refusal T (length store) (leb n (length T))) c.reach.ensures) in
-    let same = same_state {q = rules} {v = w} {T = T} refl refl c.new-status.ensures.possible refl c.new-status.ensures.windows (ap (copies stands status.slots status.windows store) c.new-status.ensures.depth) c.new-status.ensures.handed in
+    let e : make_refused rules T (length store) ≡ Some c.in-Err.refused = sym (c.in-Err.ensures ∙ ap (λ (n : ℕ). board_refusal T (length store) (leb n (length T))) c.reach.ensures) in
+    let same = same_state {q = rules} {v = w} {T = T} refl refl c.new-status.ensures.possible refl c.new-status.ensures.windows (ap (λ ms. copies stands ms status.windows store (length ms)) c.new-status.ensures.marks) c.new-status.ensures.handed in
     record {
-      equation = ap (λ (o : Option PlanRefusal). made_unless o rules w T) e ∙ ap {B = Made} (λ (t : State). record { refusal = Some c.in-Some.refused; after = t }) (sym same);
+      equation = ap (λ (o : Option PlanRefusal). made_unless o rules w T) e ∙ ap {B = Made} (λ (t : State). record { refusal = Some c.in-Err.refused; after = t }) (sym same);
       book = refl;
       policy = refl;
       asked = tt;
@@ -42,7 +42,7 @@ returns g c =
     let status = c.new-status-2.result in
     let e : make_refused rules T (length store) ≡ None = sym (c.in_default.ensures ∙ ap (λ (n : ℕ). board_refusal T (length store) (leb n (length T))) c.reach.ensures) in
     let waits : g.P.Policy.waiting c.put_all.new.policy ≡ all_waiting rules = c.put_all.ensures ∙ ap (λ (n : ℕ). puts (λ _. true) n (g.P.Policy.waiting c.clear.new.self)) c.count.ensures ∙ ap (puts (λ _. true) (length rules)) c.clear.ensures in
-    let same = same_state {q = rules} {T = T} refl waits c.new-status-2.ensures.possible refl (c.new-status-2.ensures.windows ∙ sym (length-map rows stands)) (ap (copies stands status.slots status.windows store) c.new-status-2.ensures.depth) c.new-status-2.ensures.handed in
+    let same = same_state {q = rules} {T = T} refl waits c.new-status-2.ensures.possible refl (c.new-status-2.ensures.windows ∙ sym (length-map rows stands)) (ap (λ ms. copies stands ms status.windows store (length ms)) c.new-status-2.ensures.marks) c.new-status-2.ensures.handed in
     let kinds = all_kinds stands sets rows (λ row n. (g.met.B.RuleBook.tied (stands row)).1 (g.met.B.Kind.Window.rows row n)) (fine T (length store) (leb (reach_of rules 64) (length T)) e).windows in
     let reached = subst (Reached sets g.P.Policy.choice (ask_made rules T)) (sym same) (made rules T (g.met.B.RuleBook.few c.args.book) (g.met.B.RuleBook.lawful c.args.book) kinds) in
     record {

@@ -1,50 +1,24 @@
-use Rattle.std.proofs.Common.{length, Ok, sym}
+use Rattle.std.proofs.Common.{◌≡◌, ℕ, length, Ok, Option, Result, refl, rules}
+use Rattle.rulebook.specs.Rules.{Rule}
+use Rattle.rulebook.specs.declared.answer.BookRefusal.{BookRefusal}
 use Rattle.plan.specs.States.{State}
-use Rattle.plan.specs.Calls.{posting}
-use Rattle.plan.specs.Asking.{posted, ask_posted}
-use Rattle.plan.specs.Refusals.{refused, or_else, by_book}
-use Rattle.plan.specs.Plans.{state_of}
-use Rattle.plan.specs.declared.answer.PlanRefusal.TheVariants.{Book}
+use Rattle.plan.specs.Asking.{ask_posted}
+use Rattle.plan.specs.Refusals.{post_call}
+use Rattle.plan.specs.Theorem.{Carries, if_ok}
+use Rattle.plan.specs.declared.answer.PlanRefusal.{PlanRefusal}
 use Rattle.plan.proofs.ProperSets.{proper_sets}
-use Rattle.plan.proofs.CallExits.{asked_first, call_refused}
-use Rattle.plan.proofs.PostLaws.{posted_ok, post_refused, post_done}
-use Rattle.plan.proofs.Theorem.{refused_carries, call_carries, refused_calls, posted_room}
+use Rattle.plan.proofs.Theorem.{post_carries}
+use Rattle.plan.proofs.plan.Plan.post.Given as given
 use Rattle.plan.proofs.plan.Plan.post.Goals as goal
 
-pub returns-in-Some : goal.returns-in-Some
-returns-in-Some g c =
-    let s : State = state_of g.B.RuleBook.rules g.P.Policy.waiting g.B.Kind.Window.stands c.args.self.now c.args.board.now in
-    let r = g.B.RuleBook.meaning c.args.rule in
-    let board = refused (length c.args.board.now.store.now) s in
-    let book = by_book (g.B.RuleBook.refuses c.args.self.now.book c.args.rule c.args.self.now.status.windows) in
-    record {
-      equation = call_refused (or_else board book) c.in-Some.refused s (record { answer = Ok (length s.rules); after = posting r s }) (asked_first board book c.in-Some.refused c.in-Some.ensures);
-      asked = refused_carries g.B.RuleBook.sets g.P.Policy.choice (proper_sets g.B.Kind.Window.kind g.met.B.Kind.Window.proper g.B.RuleBook.sets g.met.B.RuleBook.tied) g.met.P.Policy.chooses s;
-    }
+asked : (g : given.Over) (b : g.row.B.Denot) (r : Rule) (o : Option BookRefusal) (long : ℕ) (s : State) (x : Result ℕ PlanRefusal) (t : State) → t.rules ≡ g.B.RuleBook.rules b → post_call r o long s ≡ record { answer = x; after = t } → Carries g.B.RuleBook.sets g.P.Policy.choice (if_ok x (ask_posted r)) s t
+asked g b r o long s x t e = post_carries g.B.RuleBook.sets g.P.Policy.choice (proper_sets g.B.Kind.Window.kind g.met.B.Kind.Window.proper g.B.RuleBook.sets g.met.B.RuleBook.tied) g.met.P.Policy.chooses r o long s x t (rw e (g.met.B.RuleBook.few b)) (rw e (g.met.B.RuleBook.lawful b))
 
-pub returns-in-Err : goal.returns-in-Err
-returns-in-Err g c =
-    let s : State = state_of g.B.RuleBook.rules g.P.Policy.waiting g.B.Kind.Window.stands c.args.self.now c.args.board.now in
-    let r = g.B.RuleBook.meaning c.args.rule in
-    let long = length c.args.board.now.store.now in
-    let o = g.B.RuleBook.refuses c.args.self.now.book c.args.rule c.args.self.now.status.windows in
-    let equation = post_refused r o long s c.in_default.ensures (g.B.RuleBook.rules c.post.new.self) c.in-Err.refused c.in-Err.ensures in
-    record {
-      equation = equation;
-      asked = refused_calls g.B.RuleBook.sets g.P.Policy.choice (proper_sets g.B.Kind.Window.kind g.met.B.Kind.Window.proper g.B.RuleBook.sets g.met.B.RuleBook.tied) g.met.P.Policy.chooses (ask_posted r) s (or_else (refused long s) (by_book o)) (length s.rules) (posting r s) (Book c.in-Err.refused) _ equation;
-    }
+pub returns-in_err-check-clause-asked : goal.returns-in_err-check-clause-asked
+returns-in_err-check-clause-asked g c = asked g c.args.self.now.book _ (g.B.RuleBook.refuses c.args.self.now.book c.args.rule c.args.self.now.status.windows) (length c.args.board.now.store.now) _ _ _ refl (search rules)
 
-pub returns-in-Ok : goal.returns-in-Ok
-returns-in-Ok g c =
-    let s : State = state_of g.B.RuleBook.rules g.P.Policy.waiting g.B.Kind.Window.stands c.args.self.now c.args.board.now in
-    let r = g.B.RuleBook.meaning c.args.rule in
-    let long = length c.args.board.now.store.now in
-    let o = g.B.RuleBook.refuses c.args.self.now.book c.args.rule c.args.self.now.status.windows in
-    let rules = g.B.RuleBook.rules c.post.new.self in
-    let t = posted_ok s.rules rules r o c.in-Ok.number c.in-Ok.ensures in
-    let room = posted_room g.B.RuleBook.sets r s.rules rules (sym t.2) (g.met.B.RuleBook.few c.post.new.self) (g.met.B.RuleBook.lawful c.post.new.self) in
-    let equation = post_done r o long s c.in_default.ensures rules c.in-Ok.number (g.P.Policy.waiting c.put.new.self) c.in-Ok.ensures c.put.ensures in
-    record {
-      equation = equation;
-      asked = call_carries g.B.RuleBook.sets g.P.Policy.choice (proper_sets g.B.Kind.Window.kind g.met.B.Kind.Window.proper g.B.RuleBook.sets g.met.B.RuleBook.tied) g.met.P.Policy.chooses (ask_posted r) s (or_else (refused long s) (by_book o)) (length s.rules) (posting r s) (Ok c.in-Ok.number) _ (λ _ a h. posted r a s room.0 room.1 h) equation;
-    }
+pub returns-in_err-number-clause-asked : goal.returns-in_err-number-clause-asked
+returns-in_err-number-clause-asked g c = asked g c.post.new.self _ (g.B.RuleBook.refuses c.args.self.now.book c.args.rule c.args.self.now.status.windows) (length c.args.board.now.store.now) _ _ _ refl (search rules)
+
+pub returns-clause-asked : goal.returns-clause-asked
+returns-clause-asked g c = asked g c.post.new.self (g.B.RuleBook.meaning c.args.rule) (g.B.RuleBook.refuses c.args.self.now.book c.args.rule c.args.self.now.status.windows) (length c.args.board.now.store.now) _ (Ok c.in_ok-number.number) _ refl (search rules)

@@ -1,11 +1,12 @@
-use Rattle.std.proofs.Common.{arith}
-use Rattle.plan.proofs.MarkLaws.{found_here, found_not}
+use Rattle.std.proofs.Common.{◌≡◌, ℕ, length, Some, None, Option, sym, refl, rules}
+use Rattle.bounded.specs.Lists.{items}
+use Rattle.plan.specs.Views.{found}
+use Rattle.plan.proofs.MarkLaws.{found_none, found_some}
 use Rattle.plan.proofs.status.Status.find.Goals as goal
 
-pub returns-then-self-k : goal.returns-then-self-k
-returns-then-self-k c = found_here c.args.self.now.slots c.args.number c.loop-k.k c.args.self.now.depth c.loop-k-test.true c.if-self-k.true c.loop-k.invariant.1
-
-pub loop-k-preserved : goal.loop-k-preserved
-loop-k-preserved c =
-    let h = c.loop-k.invariant.0 in
-    (omega arith, found_not c.args.self.now.slots c.args.number c.loop-k.k c.args.self.now.depth c.loop-k-test.true c.if-self-k.false c.loop-k.invariant.1)
+pub returns : goal.returns
+returns c = go c.rposition.result refl
+  where
+    go : (r : Option ℕ) → c.rposition.result ≡ r → r ≡ found (items c.args.self.now.marks) c.args.number (length (items c.args.self.now.marks))
+    go None e = sym (found_none (items c.args.self.now.marks) c.args.number (length (items c.args.self.now.marks)) (search rules))
+    go (Some i) e = sym (found_some (items c.args.self.now.marks) c.args.number (length (items c.args.self.now.marks)) i (search rules) (search rules) (search rules))

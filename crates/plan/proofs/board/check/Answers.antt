@@ -2,7 +2,7 @@ use Rattle.std.proofs.Common.{◌≤◌, Bool, cond, map, length, Some, None, sy
 use Rattle.plan.specs.declared.answer.PlanRefusal.TheVariants.{Length}
 use Rattle.std.proofs.lemmas.List.{length-map}
 use Rattle.plan.proofs.BoardLaws.{table_few, refused_store, asked_length}
-use Rattle.plan.proofs.board.refusal.Goals as goal
+use Rattle.plan.proofs.board.check.Goals as goal
 
 pub overflow_mul-rows : goal.overflow_mul-rows
 overflow_mul-rows g c =

@@ -1,7 +1,7 @@
 use Rattle.std.proofs.Common.{◌+◌, ◌*◌, map, length}
 use Rattle.windows.specs.Sets.{sizes}
 use Rattle.plan.proofs.RunLaws.{Running}
-use Rattle.plan.proofs.settling.run_rows.Given as goal
+use Rattle.plan.proofs.settling.run.Given as goal
 
 abbrev pub invariant-loop-rule : goal.invariant-loop-rule
 invariant-loop-rule g l = Running g.B.RuleBook.sets g.P.Policy.choice (g.B.RuleBook.rules l.book) (g.P.Policy.waiting l.initial.policy) (map g.B.Kind.Window.stands l.initial.rows) l.steps (g.P.Policy.waiting l.policy) (map g.B.Kind.Window.stands l.rows)
