@@ -1,7 +1,7 @@
 -- What a board's check tells.
-use Rattle.std.proofs.Common.{◌≡◌, ℕ, zero, suc, ◌*◌, ◌<◌, ◌≤◌, Bool, true, false, cond, ◌&&◌, eqb, leb, ◌⊎◌, List, [], ◌∷◌, map, length, ℤ, Some, None, Option, sym, refl, ap, ◌∙◌, subst, inl, inr, arith}
+use Rattle.std.proofs.Common.{◌≡◌, ℕ, zero, suc, ◌*◌, ◌<◌, ◌≤◌, Bool, true, false, cond, ◌&&◌, eqb, leb, List, [], ◌∷◌, map, length, ℤ, Some, None, Option, sym, refl, ap, ◌∙◌, subst, arith}
 use Rattle.std.proofs.lemmas.List.{length-map}
-use Rattle.std.proofs.lemmas.Bool.{and_parts, and_from, and_left, and_right, leb-true, eqb-true, both_ways, cond-true, cond-false, le-leb, lt-leb}
+use Rattle.std.proofs.lemmas.Bool.{and_parts, and_from, leb-true, eqb-true, both_ways, cond-true, cond-false, le-leb, lt-leb}
 use Rattle.rulebook.specs.Tables.{Table, window, Every, filled, all_filled}
 use Rattle.plan.specs.Refusals.{is_table, board_refusal}
 use Rattle.plan.specs.declared.answer.PlanRefusal.{PlanRefusal}
@@ -42,14 +42,6 @@ fine T long wanted = go (is_table T) refl (leb (16 * length T) long) refl wanted
     go true p false q c e = absurd (let z : ◌≡◌ {A = ℕ} 0 1 = cc in omega arith)
     go false p b q c e = absurd (let z : ◌≡◌ {A = ℕ} 0 1 = cc in omega arith)
 
-pub is_table_few : {Row : Type 0} (stands : Row → List ℤ) (rows : List Row) → 1 ≤ length rows → length rows ≤ 64 → (b : Bool) → b ≡ all_filled (map stands rows) → b ≡ is_table (map stands rows)
-is_table_few stands rows l m b e =
-    e ∙ sym (ap (λ (x : Bool). x && (leb (length (map stands rows)) 64 && all_filled (map stands rows))) (le-leb 1 (length (map stands rows)) (simp length-map l)) ∙ ap (λ (x : Bool). x && all_filled (map stands rows)) (le-leb (length (map stands rows)) 64 (simp length-map m)))
-
-pub is_table_none : {Row : Type 0} (stands : Row → List ℤ) (rows : List Row) → (length rows < 1) ⊎ (64 < length rows) → false ≡ is_table (map stands rows)
-is_table_none stands rows (inl l) = sym (and_left (leb 1 (length (map stands rows))) (leb (length (map stands rows)) 64 && all_filled (map stands rows)) (lt-leb 1 (length (map stands rows)) (simp length-map l)))
-is_table_none stands rows (inr l) = sym (and_right (leb 1 (length (map stands rows))) (leb (length (map stands rows)) 64 && all_filled (map stands rows)) (and_left (leb (length (map stands rows)) 64) (all_filled (map stands rows)) (lt-leb (length (map stands rows)) 64 (simp length-map l))))
-
 -- the second and the third question
 pub refused_store : (T : Table) (long : ℕ) (wanted : Bool) → is_table T ≡ true → long < 16 * length T → Some Store ≡ board_refusal T long wanted
 refused_store T long wanted e l = sym (cond-true (is_table T) (cond (leb (16 * length T) long) (cond wanted None (Some Length)) (Some Store)) (Some Windows) e ∙ cond-false (leb (16 * length T) long) (cond wanted None (Some Length)) (Some Store) (lt-leb (16 * length T) long l))
@@ -77,10 +69,3 @@ filled_at (s ∷ T) (suc j) e l n = filled_at T j (and_parts (filled s) (all_fil
 pub all_filled_from : (sets : List ℤ → Type 0) (T : Table) → (sets [] → ⊥) → Every sets T → all_filled T ≡ true
 all_filled_from sets [] some k = refl
 all_filled_from sets (s ∷ T) some k = and_from (filled s) (all_filled T) (filled_some s (λ n. some (subst sets n (k 0 (omega arith))))) (all_filled_from sets T some (λ j l. k (suc j) (omega arith)))
-
--- one loan after the other: the rows and the store keep their names
-pub lends_both : {X : Type 0} {a b c a' b' c' : X} → (b ≡ a) × (b' ≡ a') → (c ≡ b) × (c' ≡ b') → (c ≡ a) × (c' ≡ a')
-lends_both p q = (q.0 ∙ p.0, q.1 ∙ p.1)
-
-pub lends_three : {X : Type 0} {a b c d a' b' c' d' : X} → (b ≡ a) × (b' ≡ a') → (c ≡ b) × (c' ≡ b') → (d ≡ c) × (d' ≡ c') → (d ≡ a) × (d' ≡ a')
-lends_three p q r = lends_both (lends_both p q) r

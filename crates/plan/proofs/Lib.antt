@@ -11,6 +11,5 @@ mod StoreLaws
 mod MarkLaws
 mod CallExits
 mod Theorem
-mod PostLaws
 mod ProbeLaws
 mod ProbeTheorem

@@ -134,9 +134,6 @@ pushed_copies {Row} stands old new store rows slot e m = ap (copies stands new n
         let room' : k * n + n ≤ d * n = rw (← suc-mul k n) room in
         ap₂ {C = List Copy} (λ (t : List Row) cs. record { number = (get_or old k no_slot).number; count = (get_or old k no_slot).count; impossible = (get_or old k no_slot).impossible; table = map stands t } ∷ cs) (stored_before store rows (d * n) (k * n) n room' m) (kept k (omega arith))
 
-pub same_copies : {Row : Type 0} (stands : Row → List ℤ) {s t : List Row} {a b : List Slot} {m n j k : ℕ} → s ≡ t → a ≡ b → m ≡ n → j ≡ k → copies stands a m s j ≡ copies stands b n t k
-same_copies {Row} stands {s} {t} {a} {b} {m} {n} {j} {k} o p q r = ap (λ (x : List Row). copies stands a m x j) o ∙ ap (λ (x : List Slot). copies stands x m t j) p ∙ ap (λ (x : ℕ). copies stands b x t j) q ∙ ap (copies stands b n t) r
-
 pub same_state : {q r : List Rule} {v w : List ℕ} {b c : Bool} {T U : Table} {m n : ℕ} {cs ds : List Copy} {h i : ℕ} → q ≡ r → v ≡ w → b ≡ c → T ≡ U → m ≡ n → cs ≡ ds → h ≡ i → state q v b T m cs h ≡ state r w c U n ds i
 same_state e1 e2 e3 e4 e5 e6 e7 = cc
 

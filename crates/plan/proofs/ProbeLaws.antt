@@ -1,13 +1,12 @@
 -- Trying a cut out: its equation, from those of the calls that it makes.
-use Rattle.std.proofs.Common.{◌≡◌, ℕ, ◌*◌, ◌<◌, Bool, true, false, cond, ltb, List, map, length, ℤ, Some, None, Ok, Err, Option, Result, sym, refl, ap, ◌∙◌, subst, arith}
+use Rattle.std.proofs.Common.{◌≡◌, ℕ, ◌*◌, ◌<◌, Bool, true, false, cond, ltb, List, map, length, ℤ, Some, None, Ok, Option, Result, sym, refl, ap, ◌∙◌, arith}
 use Rattle.std.proofs.lemmas.Bool.{ltb-true}
 use Rattle.plan.specs.States.{State}
 use Rattle.plan.specs.Calls.{marking}
-use Rattle.plan.specs.Refusals.{refused, or_else, mark_refusal, Call, unless, settle_call, cut_call, mark_call, back_call}
-use Rattle.plan.specs.Views.{stored, store_after, Untouched}
-use Rattle.plan.specs.Probe.{settle_after, cut_and_settle, unless_ended, back_after, try_marked, try_call}
+use Rattle.plan.specs.Refusals.{refused, or_else, mark_refusal, Call, unless, mark_call, back_call}
+use Rattle.plan.specs.Views.{stored}
+use Rattle.plan.specs.Probe.{cut_and_settle, unless_ended, back_after, try_marked, try_call}
 use Rattle.plan.specs.declared.answer.Verdict.{Verdict}
-use Rattle.plan.specs.declared.answer.Cutting.{Cutting}
 use Rattle.plan.specs.declared.answer.Closing.{Closing}
 use Rattle.plan.specs.declared.answer.PlanRefusal.{PlanRefusal}
 use Rattle.plan.specs.declared.answer.PlanRefusal.TheVariants.{Marks, Handed}
@@ -37,14 +36,6 @@ mark_long {Row} stands rows store store' s t m same e q =
     let f = fine_rows stands rows (length store) s.windows (rw same at (sym board)) in
     ap length q ∙ stored_long store rows (length s.marks * s.windows) (room_at (length s.marks) s.windows (length store) (length rows) f.0 (few_marks s marks) f.2)
 
--- a cut that was made, and a settling
-pub settled_after : (choice : List ℕ → ℕ) (j : ℕ) (g : List ℤ) (long l : ℕ) (s u t : State) (x : Cutting) (r : Result Verdict PlanRefusal) → l ≡ long → cut_call j g long s ≡ record { answer = Ok x; after = u } → settle_call choice l u ≡ record { answer = r; after = t } → cut_and_settle choice j g long s ≡ record { answer = r; after = t }
-settled_after choice j g long l s u t x r e cuts settles = ap {B = Call Verdict} (λ (c : Call Cutting). settle_after choice long c.answer c.after) cuts ∙ ap {B = Call Verdict} (λ k. settle_call choice k u) (sym e) ∙ settles
-
--- a cut that was refused
-pub refused_after : (choice : List ℕ → ℕ) (j : ℕ) (g : List ℤ) (long : ℕ) (s u : State) (f : PlanRefusal) → cut_call j g long s ≡ record { answer = Err f; after = u } → cut_and_settle choice j g long s ≡ record { answer = Err f; after = u }
-refused_after choice j g long s u f cuts = ap {B = Call Verdict} (λ (c : Call Cutting). settle_after choice long c.answer c.after) cuts
-
 -- a mark that was handed out, what was done under it, and its taking back
 pub tried : (choice : List ℕ → ℕ) (j : ℕ) (g : List ℤ) (long l₁ l₂ : ℕ) (s s₁ u t : State) (m : Mark) (r : Result Verdict PlanRefusal) (b : Result Closing PlanRefusal) → l₁ ≡ long → l₂ ≡ long → mark_call long s ≡ record { answer = Ok m; after = s₁ } → cut_and_settle choice j g l₁ s₁ ≡ record { answer = r; after = u } → back_call m.number l₂ u ≡ record { answer = b; after = t } → try_call choice j g long s ≡ record { answer = unless_ended b r; after = t }
 tried choice j g long l₁ l₂ s s₁ u t m r b e₁ e₂ marks cuts backs =
@@ -53,10 +44,3 @@ tried choice j g long l₁ l₂ s s₁ u t m r b e₁ e₂ marks cuts backs =
     ∙ ap {B = Call Verdict} (back_after m.number long) cuts
     ∙ ap {B = Call Verdict} (λ l. back_after m.number l (record { answer = r; after = u })) (sym e₂)
     ∙ ap {B = Call Verdict} (λ (c : Call Closing). record { answer = unless_ended c.answer r; after = c.after }) backs
-
--- the rows and the store, from what the marking answered
-pub mark_rows : {Row : Type 0} (long : ℕ) (s t : State) (a : Result Mark PlanRefusal) (old new : List Row) → mark_call long s ≡ record { answer = a; after = t } → Untouched a old new → Untouched (mark_call long s).answer old new
-mark_rows long s t a old new e h = subst (λ (x : Result Mark PlanRefusal). Untouched x old new) (sym (ap (λ (c : Call Mark). c.answer) e)) h
-
-pub mark_store : {Row : Type 0} (long : ℕ) (s t : State) (a : Result Mark PlanRefusal) (store new rows : List Row) (n : ℕ) → mark_call long s ≡ record { answer = a; after = t } → new ≡ store_after a store n rows → new ≡ store_after (mark_call long s).answer store n rows
-mark_store long s t a store new rows n e h = h ∙ ap (λ (x : Result Mark PlanRefusal). store_after x store n rows) (sym (ap (λ (c : Call Mark). c.answer) e))

@@ -45,14 +45,6 @@ module _ (sets : List ℤ → Type 0) (choice : List ℕ → ℕ) (proper : Prop
       go (Some f) l = record { reached = λ a h. h; holds = λ a h. reached_holds sets choice proper chooses a s h }
       go None l = record { reached = l refl; holds = λ a h. reached_holds sets choice proper chooses (f a) u (l refl a h) }
 
-  -- a call that answers a refusal was refused
-  pub refused_calls : {A : Type 0} (f : Ask → Ask) (s : State) (o : Option PlanRefusal) (x : A) (u : State) (e : PlanRefusal) (t : State) → unless o s (record { answer = Ok x; after = u }) ≡ record { answer = Err e; after = t } → Carries sets choice (if_ok {A = A} (Err e) f) s t
-  refused_calls {A} f s o x u e t q = call_carries f s o x u (Err e) t (λ n. absurd (never o n q)) q
-    where
-      never : (o : Option PlanRefusal) → o ≡ None → unless o s (record { answer = Ok x; after = u }) ≡ record { answer = Err e; after = t } → ⊥
-      never (Some g) n q = let z : ◌≡◌ {A = ℕ} 0 1 = cc in omega arith
-      never None n q = let a = ap (λ (c : Call A). c.answer) q in let z : ◌≡◌ {A = ℕ} 0 1 = cc in omega arith
-
   -- the calls that lead on
   pub cut_carries : (j : ℕ) (g : List ℤ) → sets g → (long : ℕ) (s : State) (r : Result Cutting PlanRefusal) (t : State) → cut_call j g long s ≡ record { answer = r; after = t } → Carries sets choice (if_ok r (ask_cut j g)) s t
   cut_carries j g kind long s r t = call_carries (ask_cut j g) s (or_else (refused long s) (window_refusal j s.table)) (cutting j g s).answer (cutting j g s).after r t (λ o a h. cut j g a s (in_table_from j s.table (none_asked (refused long s) (window_refusal j s.table) o).1) kind h)

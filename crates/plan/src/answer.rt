@@ -58,8 +58,8 @@ pub enum PlanRefusal {
 impl From<BookRefusal> for PlanRefusal {
     ghost from_gives = { λ f e. e ≡ Book f };
 
-    fn from(refusal: BookRefusal) -> PlanRefusal {
-        PlanRefusal::Book(refusal)
+    fn from(refused: BookRefusal) -> PlanRefusal {
+        PlanRefusal::Book(refused)
     }
 }
 

@@ -46,8 +46,7 @@ impl<B: RuleBook, P: Policy> Plan<B, P> {
                 Some(refused),
             );
         }
-        policy.clear();
-        put_all(&mut policy, book.count());
+        put_all(&book, &mut policy);
         let status = Status::new(board.rows.len());
         (
             Plan {

@@ -1,8 +1,9 @@
 // Settling, over a book, a policy and lent rows. The book is apart from the policy, since it is only read while the policy changes.
-ghost use Rattle.std.specs.Prelude.{◌≡◌, ℕ, ◌≤◌, Bool, true, map, length};
+ghost use Rattle.std.specs.Prelude.{◌≡◌, ℕ, ◌≤◌, Bool, map, length};
 ghost use Rattle.rulebook.specs.Tables.{Every};
 ghost use Rattle.rulebook.specs.Answers.{reads_at};
 ghost use Rattle.policies.specs.Waiting.{puts};
+ghost use Rattle.plan.specs.Calls.{all_waiting};
 ghost use Rattle.plan.specs.Settling.{Runs};
 ghost use Rattle.plan.specs.Rows.{wakes, Tests};
 
@@ -39,11 +40,12 @@ fn wake<B: RuleBook, P: Policy>(book: &B, policy: &mut P, changes: WindowSet, wi
     }
 }
 
-// Puts every rule below n, rising.
-pub fn put_all<P: Policy>(policy: &mut P, n: usize)
-    ensures { P.Policy.waiting policy.new ≡ puts (λ _. true) n (P.Policy.waiting policy.old) }
+// Lets every rule of the book wait, rising, and no other.
+pub fn put_all<B: RuleBook, P: Policy>(book: &B, policy: &mut P)
+    ensures { P.Policy.waiting policy.new ≡ all_waiting (B.RuleBook.rules book.now) }
 {
-    put_where(policy, n, |_| true);
+    policy.clear();
+    put_where(policy, book.count(), |_| true);
 }
 
 // Puts, rising, every rule that reads window j.

@@ -20,6 +20,7 @@ pub struct Mark {
     number: u32,
 }
 
+// The rows and the store are each lent as `&mut` before they are used: so the check follows both loans of the board.
 impl<'a, W: Window> Board<'a, W> {
     // Copies the table into the store, from `at` on.
     fn save(&mut self, at: usize)
@@ -117,8 +118,7 @@ impl<B: RuleBook, P: Policy> Plan<B, P> {
         let slot = self.status.marks.as_slice()[k];
         board.load(k * self.status.windows);
         self.book.shorten(slot.count);
-        self.policy.clear();
-        put_all(&mut self.policy, self.book.count());
+        put_all(&self.book, &mut self.policy);
         self.status.marks.truncate(k);
         self.status.impossible = slot.impossible;
         Ok(Closing::Done)

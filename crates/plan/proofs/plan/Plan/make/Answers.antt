@@ -1,9 +1,7 @@
-use Rattle.std.proofs.Common.{◌≡◌, ℕ, true, leb, map, length, Some, None, Option, sym, refl, ap, ◌∙◌, subst}
+use Rattle.std.proofs.Common.{◌≡◌, ℕ, leb, map, length, Some, None, Option, sym, refl, ap, ◌∙◌, subst}
 use Rattle.std.proofs.lemmas.List.{length-map}
 use Rattle.rulebook.specs.Answers.{reach_of}
-use Rattle.policies.specs.Waiting.{puts}
 use Rattle.plan.specs.States.{State}
-use Rattle.plan.specs.Calls.{all_waiting}
 use Rattle.plan.specs.Asking.{Reached, made, ask_made}
 use Rattle.plan.specs.Refusals.{board_refusal, make_refused, Made, made_unless}
 use Rattle.plan.specs.Views.{copies}
@@ -41,8 +39,7 @@ returns g c =
     let T = map stands rows in
     let status = c.new-status-2.result in
     let e : make_refused rules T (length store) ≡ None = sym (c.in_default.ensures ∙ ap (λ (n : ℕ). board_refusal T (length store) (leb n (length T))) c.reach.ensures) in
-    let waits : g.P.Policy.waiting c.put_all.new.policy ≡ all_waiting rules = c.put_all.ensures ∙ ap (λ (n : ℕ). puts (λ _. true) n (g.P.Policy.waiting c.clear.new.self)) c.count.ensures ∙ ap (puts (λ _. true) (length rules)) c.clear.ensures in
-    let same = same_state {q = rules} {T = T} refl waits c.new-status-2.ensures.possible refl (c.new-status-2.ensures.windows ∙ sym (length-map rows stands)) (ap (λ ms. copies stands ms status.windows store (length ms)) c.new-status-2.ensures.marks) c.new-status-2.ensures.handed in
+    let same = same_state {q = rules} {T = T} refl c.put_all.ensures c.new-status-2.ensures.possible refl (c.new-status-2.ensures.windows ∙ sym (length-map rows stands)) (ap (λ ms. copies stands ms status.windows store (length ms)) c.new-status-2.ensures.marks) c.new-status-2.ensures.handed in
     let kinds = all_kinds stands sets rows (λ row n. (g.met.B.RuleBook.tied (stands row)).1 (g.met.B.Kind.Window.rows row n)) (fine T (length store) (leb (reach_of rules 64) (length T)) e).windows in
     let reached = subst (Reached sets g.P.Policy.choice (ask_made rules T)) (sym same) (made rules T (g.met.B.RuleBook.few c.args.book) (g.met.B.RuleBook.lawful c.args.book) kinds) in
     record {

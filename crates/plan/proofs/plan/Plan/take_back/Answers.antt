@@ -1,7 +1,6 @@
-use Rattle.std.proofs.Common.{◌≡◌, ℕ, ◌*◌, ◌≤◌, true, map, length, get_or, take, drop, Some, None, Ok, Result, sym, refl, ap, ◌∙◌, arith, rules}
+use Rattle.std.proofs.Common.{◌≡◌, ℕ, ◌*◌, ◌≤◌, map, length, get_or, take, drop, Some, None, Ok, Result, sym, refl, ap, ◌∙◌, arith, rules}
 use Rattle.std.proofs.lemmas.Result.{err_from_is_err_and}
 use Rattle.bounded.specs.Lists.{items}
-use Rattle.policies.specs.Waiting.{puts}
 use Rattle.plan.specs.States.{State}
 use Rattle.plan.specs.Calls.{all_waiting, taking_back}
 use Rattle.plan.specs.Asking.{ask_back}
@@ -80,7 +79,7 @@ returns g c =
     let o = or_else (refused long s) (open_refusal m s) in
     let fine = fine_rows stands c.args.board.now.rows.now long s.windows c.in_ok-check.ensures in
     let rules : g.B.RuleBook.rules c.shorten.new.self ≡ take (get_or marks k no_slot).count s.rules = c.shorten.ensures ∙ ap (λ ms. take (get_or ms k no_slot).count s.rules) c.as_slice.ensures in
-    let waits = c.put_all.ensures ∙ ap (λ (n : ℕ). puts (λ _. true) n (g.P.Policy.waiting c.clear.new.self)) c.count.ensures ∙ ap (puts (λ _. true) (length (g.B.RuleBook.rules c.shorten.new.self))) c.clear.ensures ∙ ap all_waiting rules in
+    let waits = c.put_all.ensures ∙ ap all_waiting rules in
     let table = ap (map stands) (c.load.ensures.rows ∙ ap (λ (n : ℕ). take n (drop (k * s.windows) store)) fine.0) in
     let closed = closed_copies stands marks (items c.truncate.new.self) s.windows c.load.new.self.store.now k (omega (arith, below)) c.truncate.ensures ∙ ap (λ t. copies stands marks s.windows t k) c.load.ensures.store in
     let same = same_state rules waits (ap (λ ms. (get_or ms k no_slot).impossible) c.as_slice.ensures) table refl closed refl in
