@@ -1,19 +1,22 @@
 -- Settling rows: a plan that is made is not refused when it is settled.
-use Rattle.std.proofs.Common.{◌≡◌, ℕ, ◌+◌, ◌-◌, ◌*◌, ◌<◌, ◌≤◌, min, Bool, true, false, cond, eqb, leb, ◌⊎◌, List, ◌++◌, length, take, drop, Some, None, Ok, Err, Option, Result, sym, refl, ap, ◌∙◌, subst, ap₂, inl, inr, append-nil, arith, length-append, length-drop, take-append-drop}
+use Rattle.std.proofs.Common.{◌≡◌, ℕ, zero, suc, ℤ, [], map, ◌*◌, ◌<◌, ◌≤◌, min, Bool, true, false, cond, eqb, leb, ◌⊎◌, List, ◌++◌, length, take, drop, Some, None, Ok, Err, Option, Result, sym, refl, ap, ◌∙◌, subst, ap₂, inl, inr, append-nil, arith, take-append-drop}
 use Rattle.std.proofs.lemmas.List.{take_all, take_at, drop_all, drop_at}
 use Rattle.std.proofs.lemmas.Bool.{eq-eqb, leb-true, cases_lt}
 use Rattle.rulebook.specs.Tables.{Table}
 use Rattle.rulebook.specs.Rules.{Rule}
 use Rattle.rulebook.specs.Answers.{reach_of}
 use Rattle.policies.specs.Waiting.{first}
-use Rattle.plan.specs.States.{State}
+use Rattle.bounded.specs.Lists.{items}
+use Rattle.plan.specs.States.{State, state}
 use Rattle.plan.specs.Settling.{settling}
 use Rattle.plan.specs.Calls.{making}
 use Rattle.plan.specs.Refusals.{is_table, board_refusal, refused, make_refused, Made, made_unless, make_call, Call, unless, settle_call}
 use Rattle.plan.specs.declared.answer.PlanRefusal.{PlanRefusal}
 use Rattle.plan.specs.declared.answer.PlanRefusal.TheVariants as plan
 use Rattle.plan.specs.declared.answer.Verdict.{Verdict}
-use Rattle.plan.specs.Views.{stored, Untouched}
+use Rattle.plan.specs.Views.{copies, view, stored, Untouched}
+use Rattle.plan.specs.declared.status.Slot.{Slot}
+use Rattle.plan.specs.declared.status.Status.{Status}
 use Rattle.settle.specs.Settled.{Ran, ran_unless, ran, given_to}
 
 none_some : {X : Type 0} (f : PlanRefusal) → ◌≡◌ {A = Option PlanRefusal} (Some f) None → X
@@ -44,7 +47,7 @@ made_refusal rules w T long o s = go (make_refused rules T long)
     go (Some f) e = ap (λ (m : Made). m.refusal) e
     go None e = ap (λ (m : Made). m.refusal) e
 
-made_state : (rules : List Rule) (w : List ℕ) (T : Table) (q o : Option PlanRefusal) (s : State) → q ≡ None → made_unless q rules w T ≡ record { refusal = o; after = s } → making rules T ≡ s
+pub made_state : (rules : List Rule) (w : List ℕ) (T : Table) (q o : Option PlanRefusal) (s : State) → q ≡ None → made_unless q rules w T ≡ record { refusal = o; after = s } → making rules T ≡ s
 made_state rules w T (Some f) o s n e = none_some f n
 made_state rules w T None o s n e = ap (λ (m : Made). m.after) e
 
@@ -63,44 +66,60 @@ ran_settled rules w T long o s t r e n f =
     ap (λ x. ran_unless x rules T) p ∙ ap {B = Ran} (λ (c : Call Verdict). record { answer = c.answer; after = c.after.table }) (sym h ∙ g)
 
 -- ---- over rows and a store
--- asked before anything is written
-pub ran_asked : (rules : List Rule) (T : Table) (long : ℕ) (f : PlanRefusal) → Some f ≡ make_refused rules T long → ran rules T long ≡ record { answer = Err f; after = T }
-ran_asked rules T long f e = ap (λ o. ran_unless o rules T) (sym e)
-
 -- an accepted making runs to a verdict
 pub given_stored : {Row : Type 0} (rules : List Rule) (T U : Table) (long : ℕ) (r : Result Verdict PlanRefusal) (store rows : List Row) → None ≡ make_refused rules T long → ran rules T long ≡ record { answer = r; after = U } → given_to r store rows ≡ stored store 0 rows
 given_stored rules T U long (Ok v) store rows n e = refl
 given_stored rules T U long (Err f) store rows n e = let q : ◌≡◌ {A = Result Verdict PlanRefusal} (Ok (settling first (making rules T)).verdict) (Err f) = ap (λ (x : Ran). x.answer) (ap (λ o. ran_unless o rules T) n ∙ e) in let z : ◌≡◌ {A = ℕ} 0 1 = cc in absurd (omega arith)
 
--- what the copy leaves in the store
-pub copied : {Row : Type 0} (store rows mid : List Row) → mid ≡ rows → mid ++ drop (length rows - 0) store ≡ stored store 0 rows
-copied store rows mid e = let n : length rows - 0 ≡ 0 + length rows = omega arith in ap₂ (λ m k. m ++ drop k store) e n
+-- a plan with no open mark is what it is, whatever its store holds
+no_marks : {Row : Type 0} (stands : Row → List ℤ) (slots : List Slot) (n : ℕ) (old new : List Row) (k : ℕ) → copies stands slots n old k ≡ [] → copies stands slots n new k ≡ []
+no_marks stands slots n old new zero e = refl
+no_marks stands slots n old new (suc k) e = let z : ◌≡◌ {A = ℕ} 0 1 = cc in absurd (omega arith)
 
-pub copied_long : {Row : Type 0} (store rows mid : List Row) → mid ≡ rows → length rows ≤ length store → length (mid ++ drop (length rows - 0) store) ≡ length store
-copied_long store rows mid e h = let l = length-append mid (drop (length rows - 0) store) in let d = length-drop (length rows - 0) store in omega (arith, ap length e)
+pub same_view : {Row : Type 0} (stands : Row → List ℤ) (rules : List Rule) (w : List ℕ) (status : Status) (rows old new : List Row) → (view stands rules w status rows old).marks ≡ [] → view stands rules w status rows new ≡ view stands rules w status rows old
+same_view stands rules w status rows old new e =
+    ap (λ cs. state rules w status.impossible (map stands rows) status.windows cs status.handed) (no_marks stands (items status.marks) status.windows old new (length (items status.marks)) e ∙ sym e)
+
+-- an accepted making has found a store that holds 16 tables
+pub accepted_store : (rules : List Rule) (w : List ℕ) (T : Table) (long : ℕ) (o : Option PlanRefusal) (s : State) → make_call rules w T long ≡ record { refusal = o; after = s } → o ≡ None → 16 * length T ≤ long
+accepted_store rules w T long o s e n = stores rules T long (made_refusal rules w T long o s e ∙ n)
+
+-- an accepted making, and then the settling, with other rows in the store
+module _ {Row : Type 0} (stands : Row → List ℤ) (rules book : List Rule) (before w : List ℕ) (status : Status) (rows old new : List Row) (o : Option PlanRefusal) (r : Result Verdict PlanRefusal) (t : State) where
+  pub settled_kept : make_call rules before (map stands rows) (length old) ≡ record { refusal = o; after = view stands book w status rows old } → o ≡ None → length new ≡ length old → settle_call first (length new) (view stands book w status rows new) ≡ record { answer = r; after = t } → ran rules (map stands rows) (length old) ≡ record { answer = r; after = t.table }
+  settled_kept e n l f = ran_settled rules before (map stands rows) (length old) o s t r e n (ap₂ {C = Call Verdict} (λ m x. settle_call first m x) (sym l) (sym same) ∙ f)
+    where
+      s : State
+      s = view stands book w status rows old
+
+      made : make_refused rules (map stands rows) (length old) ≡ None
+      made = made_refusal rules before (map stands rows) (length old) o s e ∙ n
+
+      same : view stands book w status rows new ≡ s
+      same = same_view stands book w status rows old new (ap (λ x. x.marks) (sym (made_state rules before (map stands rows) _ o s made e)))
 
 -- ---- over the first n rows
 -- the first n rows, as many as there are
-pub front_is : {X : Type 0} (rows : List X) (n end : ℕ) → end ≡ min n (length rows) → take (end - 0) rows ≡ take n rows
+pub front_is : {X : Type 0} (rows : List X) (n end : ℕ) → end ≡ min n (length rows) → take (end) rows ≡ take n rows
 front_is rows n end e = go (cases_lt n (length rows))
   where
-    go : (n < length rows) ⊎ (length rows ≤ n) → take (end - 0) rows ≡ take n rows
-    go (inl h) = let q : end - 0 ≡ n = omega arith in ap (λ k. take k rows) q
-    go (inr h) = take_all (end - 0) rows (omega arith) ∙ sym (take_all n rows h)
+    go : (n < length rows) ⊎ (length rows ≤ n) → take (end) rows ≡ take n rows
+    go (inl h) = let q : end ≡ n = omega arith in ap (λ k. take k rows) q
+    go (inr h) = take_all (end) rows (omega arith) ∙ sym (take_all n rows h)
 
-pub front_new : {X : Type 0} (rows new : List X) (n end : ℕ) → end ≡ min n (length rows) → length new ≡ end - 0 → take n (new ++ drop (end - 0) rows) ≡ new
+pub front_new : {X : Type 0} (rows new : List X) (n end : ℕ) → end ≡ min n (length rows) → length new ≡ end → take n (new ++ drop (end) rows) ≡ new
 front_new rows new n end e l = go (cases_lt n (length rows))
   where
-    go : (n < length rows) ⊎ (length rows ≤ n) → take n (new ++ drop (end - 0) rows) ≡ new
-    go (inl h) = take_at new (drop (end - 0) rows) n (omega arith)
-    go (inr h) = ap (λ x. take n (new ++ x)) (drop_all (end - 0) rows (omega arith)) ∙ ap (take n) (append-nil new) ∙ take_all n new (omega arith)
+    go : (n < length rows) ⊎ (length rows ≤ n) → take n (new ++ drop (end) rows) ≡ new
+    go (inl h) = take_at new (drop (end) rows) n (omega arith)
+    go (inr h) = ap (λ x. take n (new ++ x)) (drop_all (end) rows (omega arith)) ∙ ap (take n) (append-nil new) ∙ take_all n new (omega arith)
 
-pub front_others : {X : Type 0} (rows new : List X) (n end : ℕ) → end ≡ min n (length rows) → length new ≡ end - 0 → drop n (new ++ drop (end - 0) rows) ≡ drop n rows
+pub front_others : {X : Type 0} (rows new : List X) (n end : ℕ) → end ≡ min n (length rows) → length new ≡ end → drop n (new ++ drop (end) rows) ≡ drop n rows
 front_others rows new n end e l = go (cases_lt n (length rows))
   where
-    go : (n < length rows) ⊎ (length rows ≤ n) → drop n (new ++ drop (end - 0) rows) ≡ drop n rows
-    go (inl h) = let q : end - 0 ≡ n = omega arith in drop_at new (drop (end - 0) rows) n (omega arith) ∙ ap (λ k. drop k rows) q
-    go (inr h) = ap (λ x. drop n (new ++ x)) (drop_all (end - 0) rows (omega arith)) ∙ ap (drop n) (append-nil new) ∙ drop_all n new (omega arith) ∙ sym (drop_all n rows h)
+    go : (n < length rows) ⊎ (length rows ≤ n) → drop n (new ++ drop (end) rows) ≡ drop n rows
+    go (inl h) = let q : end ≡ n = omega arith in drop_at new (drop (end) rows) n (omega arith) ∙ ap (λ k. drop k rows) q
+    go (inr h) = ap (λ x. drop n (new ++ x)) (drop_all (end) rows (omega arith)) ∙ ap (drop n) (append-nil new) ∙ drop_all n new (omega arith) ∙ sym (drop_all n rows h)
 
 -- rows whose first ones are the very same
 pub front_untouched : {A E Row : Type 0} (r : Result A E) (rows new : List Row) (k : ℕ) → Untouched r (take k rows) new → Untouched r rows (new ++ drop k rows)
