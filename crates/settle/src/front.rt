@@ -32,7 +32,7 @@ fn settle_board<B: RuleBook + Copy>(
     plan.settle(board)
 }
 
-// The same over rows and a store.
+// The same over rows and a store: a step of its own, so that what the two loans leave is known where they end.
 fn settle_slices<B: RuleBook + Copy>(
     book: B,
     rows: &mut [<B::Kind as Window>::Row],
