@@ -15,10 +15,7 @@ pub struct Fixture {
 }
 
 fn numbered<T>(answer: Result<T, PlanRefusal>) -> Result<T, u8> {
-    match answer {
-        Ok(value) => Ok(value),
-        Err(refused) => Err(refused.number()),
-    }
+    answer.map_err(|refused| refused.number())
 }
 
 fn window(lo: i32, hi: i32) -> Result<Span, u8> {

@@ -15,10 +15,7 @@ fn making(book: DayBook, rows: &mut [SpanRow]) -> u8 {
         store: &mut store,
     };
     let (_plan, refusal) = Plan::make(book, FirstCome::new(), &board);
-    match refusal {
-        Some(refused) => refused.number(),
-        None => 0,
-    }
+    refusal.map_or(0, |refused| refused.number())
 }
 
 #[test]
