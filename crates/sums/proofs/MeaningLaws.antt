@@ -1,5 +1,5 @@
 -- What the sum rules come to, in words of sums and placings.
-use Rattle.std.proofs.Common.{◌≡◌, ℕ, suc, ◌<◌, ◌≤◌, Bool, true, false, cond, not, ◌&&◌, ◌||◌, eqb, ◌⊎◌, List, [], ◌∷◌, map, length, get_or, ℤ, pos, ◌-ℤ◌, ◌*ℤ◌, ◌≤ℤ◌, filter, sym, refl, ap, ◌∙◌, subst, ap₂, inl, inr, arith}
+use Rattle.std.proofs.Common.{◌≡◌, ℕ, suc, ◌<◌, ◌≤◌, Bool, true, false, cond, not, ◌&&◌, ◌||◌, eqb, ◌⊎◌, List, [], ◌∷◌, map, length, get_or, ℤ, pos, ◌-ℤ◌, ◌*ℤ◌, ◌≤ℤ◌, Ok, Err, filter, sym, refl, ap, ◌∙◌, subst, ap₂, inl, inr, arith}
 use lib.Signed.{le_z}
 use Rattle.std.specs.List.{range_with_len, AllByRecursion as All}
 use Rattle.std.proofs.lemmas.List.FromFn.{get_or-map-range_with_len}
@@ -8,39 +8,21 @@ use Rattle.std.proofs.lemmas.Bool.Decides.{eqb_tells}
 use Rattle.windows.specs.Sets.{In, least_by, greatest_by}
 use Rattle.windows.specs.SetLaws.{tests, never, in_kept, within_kept, kept_passes, least_bounds, greatest_bounds, least_reached, greatest_reached}
 use Rattle.rulebook.specs.Tables.{Table, Placing, window, place, filled, all_filled}
-use Rattle.rulebook.specs.Rules.{Means, Outcome, narrowed, emptied}
-use Rattle.rulebook.specs.Answers.{outcome, Tells}
-use Rattle.rulebook.specs.declared.answer.Narrowing.{Narrowing}
-use Rattle.rulebook.specs.declared.answer.Narrowing.TheVariants.{Changed, Emptied}
+use Rattle.rulebook.specs.Rules.{Outcome, narrowed, emptied}
+use Rattle.rulebook.specs.Answers.{outcome, Narrowing, Tells}
+use Rattle.rulebook.specs.declared.answer.Emptied.{Emptied}
 use Rattle.rulebook.specs.declared.set.WindowSet.{WindowSet}
 use Rattle.rules.specs.Pointwise.{make_all, narrow_by, rule_of}
 use Rattle.rules.proofs.PointwiseLaws.{narrow_tells, window_made, guard_yes, guard_no, le_or_lt}
-use Rattle.sums.specs.Sums.{in_terms, terms_reach, weight_at, term_least, term_greatest, term_at, total_but, smallest_but, largest_but, sum_of, sum_passes, sum_new, sum_rule}
+use Rattle.sums.specs.Sums.{is_exact, in_terms, terms_reach, weight_at, term_least, term_greatest, term_at, total_but, smallest_but, largest_but, sum_passes, sum_new, sum_rule}
 use Rattle.sums.specs.Questions.{Apart}
 use Rattle.sums.specs.Meaning.{terms_of, sum_meaning}
-use Rattle.sums.specs.Laws.{Meets, Keeps, Kept, SumKeeps, Takes, sum_but, SumReached}
+use Rattle.sums.specs.Laws.{Keeps, Kept, SumKeeps, Takes, sum_but, SumReached}
 use Rattle.sums.specs.Steps.{all_read}
 use Rattle.sums.specs.declared.posted.Term.{Term}
 use Rattle.sums.specs.declared.sum.Sum.{Sum}
 use Rattle.sums.proofs.Totals.{no_term, covers, each_read, in_at, weight_is, but_mono, but_same}
 use Rattle.sums.proofs.SumLaws.{sum_unread}
-
--- ---- the placings that a sum allows
-pub sum_means : (ts : List Term) (b : ℤ) (exact : Bool) → Means (rule_of (sum_rule ts b exact)) (λ p. Meets exact (sum_of ts p) b)
-sum_means ts b true = record { only = λ p h. equal (sum_of ts p) h; all = λ p e. back (sum_of ts p) e }
-  where
-    equal : (s : ℤ) → (le_z s b && (false || le_z b s)) ≡ true → s ≡ b
-    equal s h = grind (arith, ints, tests)
-
-    back : (s : ℤ) → s ≡ b → (le_z s b && (false || le_z b s)) ≡ true
-    back s e = grind (arith, ints, tests)
-sum_means ts b false = record { only = λ p h. most (sum_of ts p) h; all = λ p e. back (sum_of ts p) e }
-  where
-    most : (s : ℤ) → (le_z s b && true) ≡ true → s ≤ℤ b
-    most s h = grind (arith, ints, tests)
-
-    back : (s : ℤ) → s ≤ℤ b → (le_z s b && true) ≡ true
-    back s e = grind (arith, ints, tests)
 
 -- ---- the numbers that a window keeps
 passes_is : (exact : Bool) (x low high : ℤ) → (le_z x high && (not exact || le_z low x)) ≡ true → (x ≤ℤ high) × (exact ≡ true → low ≤ℤ x)
@@ -73,11 +55,11 @@ module _ (ts : List Term) (b : ℤ) (exact : Bool) (T U : Table) where
   outcome_is : all_filled T ≡ true → terms_reach ts ≤ length T → outcome (rule_of (sum_rule ts b exact)) T ≡ narrow_by (sum_new ts b exact) T
   outcome_is f r = ap (λ t. cond t ((rule_of (sum_rule ts b exact)).narrow T) (narrowed T)) f ∙ guard_yes (sum_rule ts b exact) T r
 
-  pub changed_keeps : (w : WindowSet) → Tells T (outcome (rule_of (sum_rule ts b exact)) T) (Changed w) U → all_filled T ≡ true → terms_reach ts ≤ length T → (j : ℕ) → in_terms ts j ≡ true → Kept ts b exact T U j
+  pub changed_keeps : (w : WindowSet) → Tells T (outcome (rule_of (sum_rule ts b exact)) T) (Ok w) U → all_filled T ≡ true → terms_reach ts ≤ length T → (j : ℕ) → in_terms ts j ≡ true → Kept ts b exact T U j
   changed_keeps w t f r j h = go (narrow_tells (sum_new ts b exact) T)
     where
-      told : (o : Outcome) → narrow_by (sum_new ts b exact) T ≡ o → Tells T o (Changed w) U
-      told o e = subst (λ o. Tells T o (Changed w) U) (outcome_is f r ∙ e) t
+      told : (o : Outcome) → narrow_by (sum_new ts b exact) T ≡ o → Tells T o (Ok w) U
+      told o e = subst (λ o. Tells T o (Ok w) U) (outcome_is f r ∙ e) t
 
       go : Whole (sum_new ts b exact) T ⊎ Lost (sum_new ts b exact) T → Kept ts b exact T U j
       go (inl (e, n)) =
@@ -87,25 +69,25 @@ module _ (ts : List Term) (b : ℤ) (exact : Bool) (T U : Table) where
           record { only = λ v i. new_only ts b exact T j h v (subst (In v) k i); all = λ v q. subst (In v) (sym k) (new_all ts b exact T j h v q) }
       go (inr (k, e, n, z, m)) = absurd (told (emptied k) e)
 
-  pub emptied_keeps : (k : ℕ) → Tells T (outcome (rule_of (sum_rule ts b exact)) T) (Emptied k) U → (v : ℤ) → Keeps ts b exact T k v → ⊥
-  emptied_keeps k t v q = fills (all_filled T) refl (le_or_lt (terms_reach ts) (length T))
+  pub emptied_keeps : (a : Emptied) → Tells T (outcome (rule_of (sum_rule ts b exact)) T) (Err a) U → (v : ℤ) → Keeps ts b exact T a.window v → ⊥
+  emptied_keeps a t v q = fills (all_filled T) refl (le_or_lt (terms_reach ts) (length T))
     where
-      nothing : sum_new ts b exact T k ≡ [] → (c : Bool) → in_terms ts k ≡ c → ⊥
-      nothing z true h = never (subst (In v) z (new_all ts b exact T k h v q))
-      nothing z false h = never (subst (In v) (sym (sum_unread ts b exact T k h) ∙ z) q.old)
+      nothing : sum_new ts b exact T a.window ≡ [] → (c : Bool) → in_terms ts a.window ≡ c → ⊥
+      nothing z true h = never (subst (In v) z (new_all ts b exact T a.window h v q))
+      nothing z false h = never (subst (In v) (sym (sum_unread ts b exact T a.window h) ∙ z) q.old)
 
-      go : Tells T (narrow_by (sum_new ts b exact) T) (Emptied k) U → Whole (sum_new ts b exact) T ⊎ Lost (sum_new ts b exact) T → ⊥
-      go d (inl (e, n)) = subst (λ o. Tells T o (Emptied k) U) e d
-      go d (inr (i, e, n, z, m)) = let c : k ≡ i = (subst (λ o. Tells T o (Emptied k) U) e d).0 in nothing (ap (sum_new ts b exact T) c ∙ z) (in_terms ts k) refl
+      go : Tells T (narrow_by (sum_new ts b exact) T) (Err a) U → Whole (sum_new ts b exact) T ⊎ Lost (sum_new ts b exact) T → ⊥
+      go d (inl (e, n)) = subst (λ o. Tells T o (Err a) U) e d
+      go d (inr (i, e, n, z, m)) = let c : a.window ≡ i = (subst (λ o. Tells T o (Err a) U) e d).0 in nothing (ap (sum_new ts b exact T) c ∙ z) (in_terms ts a.window) refl
 
       fills : (f : Bool) → all_filled T ≡ f → (terms_reach ts ≤ length T) ⊎ (length T < terms_reach ts) → ⊥
-      fills false f r = subst (λ o. Tells T o (Emptied k) U) (ap (λ c. cond c ((rule_of (sum_rule ts b exact)).narrow T) (narrowed T)) f) t
-      fills true f (inl r) = go (subst (λ o. Tells T o (Emptied k) U) (outcome_is f r) t) (narrow_tells (sum_new ts b exact) T)
-      fills true f (inr r) = subst (λ o. Tells T o (Emptied k) U) (ap (λ c. cond c ((rule_of (sum_rule ts b exact)).narrow T) (narrowed T)) f ∙ guard_no (sum_rule ts b exact) T r) t
+      fills false f r = subst (λ o. Tells T o (Err a) U) (ap (λ c. cond c ((rule_of (sum_rule ts b exact)).narrow T) (narrowed T)) f) t
+      fills true f (inl r) = go (subst (λ o. Tells T o (Err a) U) (outcome_is f r) t) (narrow_tells (sum_new ts b exact) T)
+      fills true f (inr r) = subst (λ o. Tells T o (Err a) U) (ap (λ c. cond c ((rule_of (sum_rule ts b exact)).narrow T) (narrowed T)) f ∙ guard_no (sum_rule ts b exact) T r) t
 
 pub narrow_keeps : (s : Sum) (T U : Table) (r : Narrowing) → Tells T (outcome (sum_meaning s) T) r U → SumKeeps s T r U
-narrow_keeps s T U (Changed w) t = changed_keeps (terms_of s) s.bound s.exact T U w t
-narrow_keeps s T U (Emptied k) t = emptied_keeps (terms_of s) s.bound s.exact T U k t
+narrow_keeps s T U (Ok w) t = changed_keeps (terms_of s) s.bound (is_exact s.relation) T U w t
+narrow_keeps s T U (Err a) t = emptied_keeps (terms_of s) s.bound (is_exact s.relation) T U a t
 
 -- ---- the smallest and the largest sum of the other terms
 read_window : (ts : List Term) (T : Table) (j : ℕ) → all_read ts T ≡ true → in_terms ts j ≡ true → filled (window T j) ≡ true

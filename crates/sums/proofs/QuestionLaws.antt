@@ -1,7 +1,7 @@
 -- The loops that ask a question of each term, and what the questions tell.
-use Rattle.std.proofs.Common.{◌≡◌, ℕ, ◌+◌, ◌<◌, ◌≤◌, min, Bool, true, false, cond, not, List, [], ◌∷◌, length, get_or, drop, ℤ, pos, negsuc, Some, None, Option, sym, refl, ◌∙◌, arith}
-use lib.Signed.{le_z}
-use Rattle.std.proofs.lemmas.List.{at_drop_more, at_drop_all}
+use Rattle.std.proofs.Common.{◌≡◌, ℕ, ◌+◌, ◌<◌, ◌≤◌, min, Bool, true, false, cond, not, ◌&&◌, ◌||◌, ◌==◌, List, [], ◌∷◌, length, get_or, drop, ℤ, pos, negsuc, Some, None, Option, sym, refl, ap, ◌∙◌, nat_lt, arith}
+use Rattle.std.specs.List.{list_all, list_any}
+use Rattle.std.proofs.lemmas.List.{at_drop_more, at_drop_all, length-take}
 use Rattle.std.proofs.lemmas.Bool.Decides.{nat_tests}
 use Rattle.std.proofs.lemmas.Int.{ints}
 use Rattle.windows.specs.Sets.{eq_z}
@@ -25,39 +25,20 @@ module _ (F : List Term → Bool) (ts : List Term) (i : ℕ) (same : F (drop i t
   pub ended : length ts ≤ i → F [] ≡ F ts
   ended h = sym (at_drop_all F ts i h) ∙ same
 
--- ---- the first of the terms that are left
-pub in_here : (t : Term) (ts : List Term) (j : ℕ) → t.window ≡ j → in_terms (t ∷ ts) j ≡ true
-in_here t ts j e = grind (arith, nat_tests)
+-- ---- the questions as chains ask them
+pub in_any : (ts : List Term) (j : ℕ) → list_any (λ t. t.window == j) ts ≡ in_terms ts j
+in_any [] j = refl
+in_any (t ∷ ts) j = ap (λ b. t.window == j || b) (in_any ts j)
 
-pub in_later : (t : Term) (ts : List Term) (j : ℕ) → (t.window ≡ j → ⊥) → in_terms (t ∷ ts) j ≡ in_terms ts j
-in_later t ts j e = grind (arith, nat_tests)
+pub below_all : (n : ℕ) (ts : List Term) → list_all (λ t. nat_lt t.window n) ts ≡ windows_below n ts
+below_all n [] = refl
+below_all n (t ∷ ts) = ap (λ b. nat_lt t.window n && b) (below_all n ts)
 
-pub below_not : (n : ℕ) (t : Term) (ts : List Term) → n ≤ t.window → windows_below n (t ∷ ts) ≡ false
-below_not n t ts e = grind (arith, nat_tests)
-
-pub below_later : (n : ℕ) (t : Term) (ts : List Term) → t.window < n → windows_below n (t ∷ ts) ≡ windows_below n ts
-below_later n t ts e = grind (arith, nat_tests)
-
-pub apart_not : (t : Term) (ts : List Term) → in_terms ts t.window ≡ true → apart (t ∷ ts) ≡ false
-apart_not t ts e = grind arith
-
-pub apart_later : (t : Term) (ts : List Term) → in_terms ts t.window ≡ false → apart (t ∷ ts) ≡ apart ts
-apart_later t ts e = grind arith
-
-pub fit_not : (t : Term) (ts : List Term) → weighs t.weight ≡ false → weights_fit (t ∷ ts) ≡ false
-fit_not t ts e = rw e refl
-
-pub fit_later : (t : Term) (ts : List Term) → weighs t.weight ≡ true → weights_fit (t ∷ ts) ≡ weights_fit ts
-fit_later t ts e = rw e refl
+pub fit_all : (ts : List Term) → list_all (λ t. weighs t.weight) ts ≡ weights_fit ts
+fit_all [] = refl
+fit_all (t ∷ ts) = ap (λ b. weighs t.weight && b) (fit_all ts)
 
 -- ---- a weight
-pub weighs_zero : (w : ℤ) → w ≡ pos 0 → false ≡ weighs w
-unfolding eq_z
-weighs_zero w e = rw e refl
-
-pub weighs_rest : (w : ℤ) → (w ≡ pos 0 → ⊥) → le_z (negsuc 9999) w ≡ true → le_z w (pos 10000) ≡ weighs w
-weighs_rest w n h = grind (arith, ints, tests)
-
 pub weighs_is : (w : ℤ) → weighs w ≡ true → Weighs w
 unfolding eq_z
 weighs_is w h = (grind (arith, ints, tests), grind (arith, ints, tests), λ e. never (rw e at h))
@@ -95,8 +76,8 @@ pub below_read : (n : ℕ) (ts : List Term) (j : ℕ) → windows_below n ts ≡
 below_read n [] j e h = never h
 below_read n (t ∷ ts) j e h = let ih = below_read n ts j in grind (arith, nat_tests)
 
-pub count_is : (n : ℕ) → terms_fit n ≡ true → (0 < n) × (n ≤ 8)
-count_is n e = (grind (arith, nat_tests), grind (arith, nat_tests))
+pub some_given : (p : PostedSum) → length p.terms ≡ 8 → terms_fit p.count ≡ true → 0 < length (given p)
+some_given p l e = let t = length-take p.count p.terms in grind (arith, nat_tests)
 
 pub below_64 : (n : ℕ) (ts : List Term) → windows_below (min n 64) ts ≡ true → windows_below 64 ts ≡ true
 below_64 n ts e = below_more (min n 64) 64 ts (omega arith) e

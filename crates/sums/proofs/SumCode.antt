@@ -1,7 +1,7 @@
 -- What the code of the sum rules computes, as numbers.
-use Rattle.std.proofs.Common.{◌≡◌, ℕ, zero, suc, ◌*◌, ◌<◌, ◌≤◌, Bool, true, false, cond, not, ◌&&◌, ◌||◌, leb, [], ℤ, pos, negsuc, ◌-ℤ◌, ◌*ℤ◌, neg_ℤ, nat_abs, ◌≤ℤ◌, ◌<ℤ◌, sym, refl, ap, ◌∙◌, ap₂, subst₂, mul_comm, div-lt_iff_lt-mul, mul-le-mul, le-div_iff_mul-le, div-le_self, arith, w32, w64, SFits}
+use Rattle.std.proofs.Common.{◌≡◌, ℕ, zero, suc, ◌*◌, ◌<◌, ◌≤◌, Bool, true, false, cond, not, ◌&&◌, ◌||◌, leb, ℤ, pos, negsuc, ◌-ℤ◌, ◌*ℤ◌, neg_ℤ, nat_abs, ◌≤ℤ◌, ◌<ℤ◌, sym, refl, ap, ◌∙◌, subst, ap₂, mul_comm, div-lt_iff_lt-mul, mul-le-mul, le-div_iff_mul-le, div-le_self, arith, w32, w64, SFits, to_z, of_z}
 use lib.IntN.{neg_ℤ-neg_ℤ, +ℤ_idl}
-use lib.Signed.{le_z, lt_z}
+use lib.Signed.{le_z}
 use Rattle.std.specs.Int.{int_min, int_max, int_div_euclid}
 use Rattle.std.proofs.lemmas.Int.{ints, clamps}
 use Rattle.std.proofs.lemmas.Bool.Decides.{nat_tests}
@@ -9,7 +9,7 @@ use Rattle.windows.specs.Sets.{range, between, least_by, greatest_by}
 use Rattle.windows.specs.Rows.{Stands}
 use Rattle.sums.specs.Sizes.{Weighs, Small}
 use Rattle.sums.specs.Sums.{weighed}
-use Rattle.windows.specs.SetLaws.{bool_same, range_none, least_range, greatest_range}
+use Rattle.windows.specs.SetLaws.{bool_same, least_range, greatest_range}
 use Rattle.sums.proofs.Signed.{mul_up, mul_down}
 
 -- ---- products
@@ -43,11 +43,16 @@ pub greatest_ends : (w lo hi : ℤ) → lo ≤ℤ hi → greatest_by (λ v. w *�
 greatest_ends (pos n) lo hi h = greatest_range (λ v. pos n *ℤ v) lo hi (pos n *ℤ hi) h (λ v l g. mul_up n v hi g) hi h (omega (arith, ints)) refl ∙ sym (max_right _ _ (mul_up n lo hi h))
 greatest_ends (negsuc n) lo hi h = greatest_range (λ v. negsuc n *ℤ v) lo hi (negsuc n *ℤ lo) h (λ v l g. mul_down n lo v l) lo (omega (arith, ints)) h refl ∙ sym (max_left _ _ (mul_down n lo hi h))
 
-pub min_small : (b : ℕ) (x y : ℤ) → Small b x → Small b y → Small b (int_min x y)
-min_small b x y s t = (omega (arith, ints, clamps), omega (arith, ints, clamps))
+pub ends_small : (lo hi : ℤ) → Stands lo hi → Small 1000000 lo × Small 1000000 hi
+ends_small lo hi s = ((omega (arith, ints), omega (arith, ints)), (omega (arith, ints), omega (arith, ints)))
 
-pub max_small : (b : ℕ) (x y : ℤ) → Small b x → Small b y → Small b (int_max x y)
-max_small b x y s t = (omega (arith, ints, clamps), omega (arith, ints, clamps))
+-- the product of a weight and an end of a span, as the code makes it
+pub wide : (a b e w v : ℤ) → a ≡ to_z w32 (of_z w32 w) → b ≡ to_z w32 (of_z w32 e) → e ≡ v → Weighs w → Small 1000000 v → (to_z w64 (of_z w64 (to_z w64 (of_z w64 a) *ℤ to_z w64 (of_z w64 b))) ≡ w *ℤ v) × Small 10000000000 (w *ℤ v)
+wide a b e w v p q r h k =
+    let s = times_small w v h k in
+    let x : to_z w64 (of_z w64 a) ≡ w = omega (arith, ints, clamps) in
+    let y : to_z w64 (of_z w64 b) ≡ v = omega (arith, ints, clamps) in
+    (rw (x, y) (omega (arith, ints, clamps)), s)
 
 -- ---- quotients, rounded down
 pub times_neg : (m : ℕ) (v : ℤ) → pos m *ℤ neg_ℤ v ≡ neg_ℤ (pos m *ℤ v)
@@ -86,6 +91,29 @@ floor_is m h (negsuc a) (negsuc c) =
 pub floor_small : (m : ℕ) → 0 < m → (b : ℕ) (x : ℤ) → Small b x → Small b (int_div_euclid x (pos m))
 floor_small m h b (pos a) s = let d = div-le_self a m in (omega (arith, ints), omega (arith, ints))
 floor_small m h b (negsuc a) s = let d = div-le_self a m in (omega (arith, ints), omega (arith, ints))
+
+-- the size of a weight and the quotients by it, at what the code computes
+pub record Computed (w low high s a b : ℤ) (exact : Bool) : Type 0 where
+  pub size : s ≡ pos (nat_abs w)
+  pub above : a ≡ int_div_euclid high s
+  pub below : b ≡ cond exact (int_div_euclid (neg_ℤ low) s) (pos 1000000)
+  pub small : Small 1000000000000 a
+
+pub computed : (f w low high s a b : ℤ) (exact : Bool) → f ≡ to_z w32 (of_z w32 w) → s ≡ pos (nat_abs (to_z w64 (of_z w64 f))) → a ≡ int_div_euclid (to_z w64 (of_z w64 high)) (to_z w64 (of_z w64 s)) → b ≡ cond exact (int_div_euclid (neg_ℤ (to_z w64 (of_z w64 low))) (to_z w64 (of_z w64 s))) (pos 1000000) → Weighs w → Small 1000000000000 low → Small 1000000000000 high → Computed w low high s a b exact
+computed f w low high s a b exact ef es ea eb h l g =
+    let x : to_z w64 (of_z w64 f) ≡ w = omega (arith, ints, clamps) in
+    let q : s ≡ pos (nat_abs w) = es ∙ ap (λ z. pos (nat_abs z)) x in
+    let n = some_size w h in
+    let t : to_z w64 (of_z w64 s) ≡ s = rw q (omega (arith, ints, clamps)) in
+    let y : to_z w64 (of_z w64 low) ≡ low = omega (arith, ints, clamps) in
+    let z : to_z w64 (of_z w64 high) ≡ high = omega (arith, ints, clamps) in
+    let d : a ≡ int_div_euclid high s = ea ∙ ap₂ int_div_euclid z t in
+    record { size = q; above = d; below = eb ∙ ap (λ z. cond exact z (pos 1000000)) (ap₂ (λ l s. int_div_euclid (neg_ℤ l) s) y t); small = subst (Small 1000000000000) (sym (d ∙ ap (int_div_euclid high) q)) (floor_small (nat_abs w) n.0 1000000000000 high g) }
+  where
+    some_size : (w : ℤ) → Weighs w → (0 < nat_abs w) × (nat_abs w ≤ 10000)
+    some_size (pos zero) h = absurd (h.2 refl)
+    some_size (pos (suc m)) h = (omega arith, omega (arith, ints))
+    some_size (negsuc n) h = (omega arith, omega (arith, ints))
 
 pub flip : (x y : ℤ) → le_z x y ≡ le_z (neg_ℤ y) (neg_ℤ x)
 flip x y = bool_same _ _ (λ e. sym (omega (arith, ints))) (λ e. sym (omega (arith, ints)))
@@ -148,13 +176,3 @@ quotients_neg (negsuc n) exact low high size above below h s a b v l =
 
 pub widen : {z : ℤ} → SFits w32 z → SFits w64 z
 widen f = omega (arith, ints)
-
--- the ends of a row that is clipped
-pub clipped_ends : (lo hi l h from to : ℤ) → Stands lo hi → l ≡ int_max lo from → h ≡ int_min hi to → lt_z h l ≡ false → Stands l h × (range l h ≡ range (int_max lo from) (int_min hi to))
-clipped_ends lo hi l h from to s e f t = ((omega (arith, ints), omega (arith, ints, clamps), omega (arith, ints, clamps)), ap₂ range e f)
-
-pub clipped_fits : (lo hi l h from to : ℤ) → Stands lo hi → l ≡ int_max lo from → h ≡ int_min hi to → lt_z h l ≡ false → SFits w32 l × SFits w32 h
-clipped_fits lo hi l h from to s e f t = (omega (arith, ints, clamps), omega (arith, ints, clamps))
-
-pub clipped_none : (lo hi l h from to : ℤ) → l ≡ int_max lo from → h ≡ int_min hi to → lt_z h l ≡ true → range (int_max lo from) (int_min hi to) ≡ []
-clipped_none lo hi l h from to e f t = range_none _ _ (subst₂ (λ x y. y <ℤ x) e f (omega (arith, ints)))

@@ -7,7 +7,7 @@ use Rattle.windows.specs.Kinds.{Of, spans}
 use Rattle.rulebook.specs.Tables.{Table, Placing, window, place, Inside, Places, Every}
 use Rattle.rulebook.specs.Rules.{Agree, Lawful}
 use Rattle.rules.specs.Pointwise.{rule_of}
-use Rattle.sums.specs.Sums.{in_terms, terms_reach, weight_at, term_least, term_greatest, term_at, total_but, smallest_but, largest_but, sum_of, sum_passes, sum_new, sum_allows, sum_rule}
+use Rattle.sums.specs.Sums.{is_exact, in_terms, terms_reach, weight_at, term_least, term_greatest, term_at, total_but, smallest_but, largest_but, sum_of, sum_passes, sum_new, sum_allows, sum_rule}
 use Rattle.sums.specs.Questions.{Apart, given, sum_asks}
 use Rattle.sums.specs.Meaning.{terms_of, sum_meaning, posted_meaning}
 use Rattle.sums.specs.declared.posted.Term.{Term}
@@ -124,7 +124,7 @@ sum_lawful ts b exact a = lawful (Of spans) (λ s k. k.some) (sum_rule ts b exac
 
 -- ---- what a book of sums owes
 pub meaning_lawful : (s : Sum) → Lawful (Of spans) (sum_meaning s)
-meaning_lawful s = sum_lawful (terms_of s) s.bound s.exact s.different
+meaning_lawful s = sum_lawful (terms_of s) s.bound (is_exact s.relation) s.different
 
 pub meaning_near : (s : Sum) (j : ℕ) → (sum_meaning s).reads j ≡ true → j < 64
 meaning_near s j h = below_read 64 (terms_of s) j s.near h

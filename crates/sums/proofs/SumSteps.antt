@@ -1,22 +1,17 @@
 -- The steps of a narrowing by a sum, as numbers and lists.
-use Rattle.std.proofs.Common.{◌≡◌, ℕ, zero, suc, ◌+◌, ◌*◌, ◌<◌, ◌≤◌, min, Bool, true, false, cond, ◌||◌, eqb, ltb, leb, List, [], ◌∷◌, ◌++◌, map, length, get_or, take, ℤ, pos, negsuc, ◌+ℤ◌, ◌-ℤ◌, ◌*ℤ◌, ◌≤ℤ◌, Some, None, filter, Option, sym, refl, ap, ◌∙◌, subst, ap₂, arith, w32, w64, SFits, MatchOption}
+use Rattle.std.proofs.Common.{◌≡◌, ℕ, zero, suc, ◌+◌, ◌*◌, ◌<◌, ◌≤◌, min, Bool, true, false, cond, ◌||◌, eqb, ltb, leb, List, [], ◌∷◌, ◌++◌, length, get_or, take, ℤ, pos, negsuc, ◌+ℤ◌, ◌-ℤ◌, ◌*ℤ◌, ◌≤ℤ◌, Some, None, Ok, filter, Option, sym, refl, ap, ◌∙◌, subst, ap₂, arith, w32, w64, SFits}
 use Rattle.std.specs.Int.{int_min, int_max}
 use Rattle.std.specs.List.{AllByRecursion as All}
-use Rattle.std.proofs.lemmas.List.{take_more, get_or-map, get_or_past, length-map, length-take}
+use Rattle.std.proofs.lemmas.List.{take_more, length-map, length-take}
 use Rattle.std.proofs.lemmas.Int.{ints}
 use Rattle.std.proofs.lemmas.Bool.Decides.{nat_tests}
 use Rattle.windows.specs.Sets.{range, between, least_by, greatest_by}
-use Rattle.windows.specs.Rows.{Stands, span_stands, span_numbers}
+use Rattle.windows.specs.Rows.{Stands}
 use Rattle.windows.specs.declared.span.Span.{Span}
-use Rattle.windows.specs.declared.span.SpanRow.{SpanRow}
-use Rattle.windows.specs.SetLaws.{tests, never, kept_range, range_some}
-use Rattle.windows.specs.SpanLaws.{row_is, row_none}
-use Rattle.windows.proofs.KindLaws.{not_none}
+use Rattle.windows.specs.SetLaws.{never, kept_range, range_some}
 use Rattle.rulebook.specs.Tables.{Table, window, filled, all_filled}
 use Rattle.rulebook.specs.Rules.{narrowed}
-use Rattle.rulebook.specs.Answers.{outcome, member, Tells}
-use Rattle.rulebook.specs.declared.answer.Narrowing.{Narrowing}
-use Rattle.rulebook.specs.declared.answer.Narrowing.TheVariants.{Changed}
+use Rattle.rulebook.specs.Answers.{outcome, member, Narrowing, Tells}
 use Rattle.rulebook.specs.declared.set.WindowSet.{WindowSet}
 use Rattle.rules.specs.Pointwise.{rule_of, Entry, has_entry, judged, narrow_by, written}
 use Rattle.rules.specs.Writing.{numbers_of, pushed}
@@ -26,37 +21,16 @@ use Rattle.sums.specs.Sums.{term_least, term_greatest, smallest, largest, smalle
 use Rattle.sums.specs.Questions.{windows_below, Apart, weights_fit}
 use Rattle.sums.specs.Sizes.{Weighs, Small}
 use Rattle.sums.specs.Steps.{WindowOf, all_read, Fit, entries}
+use Rattle.sums.specs.Meaning.{terms_of}
 use Rattle.sums.specs.declared.posted.Term.{Term}
+use Rattle.sums.specs.declared.sum.Sum.{Sum}
 use Rattle.sums.proofs.SumLaws.{sum_unread}
 use Rattle.sums.proofs.QuestionLaws.{weighs_is}
 use Rattle.sums.proofs.Totals.{no_term, in_at, fresh, weight_is, but_rest}
 
-abbrev pub no_row : SpanRow
-no_row = record { lo = pos 0; hi = pos 0 }
-
--- ---- rows and windows
-pub window_row : (rows : List SpanRow) (at : ℕ) → at < length rows → window (map span_numbers rows) at ≡ span_numbers (get_or rows at no_row)
-window_row rows at h = get_or-map span_numbers rows at no_row [] h
-
-pub window_past : (rows : List SpanRow) (at : ℕ) → length rows ≤ at → window (map span_numbers rows) at ≡ []
-window_past rows at h = get_or_past (map span_numbers rows) at [] (let l = length-map rows span_numbers in omega arith)
-
--- a row with the numbers of a span passes its check
-pub row_stands : (row : SpanRow) (lo hi : ℤ) → Stands lo hi → range lo hi ≡ span_numbers row → Stands row.lo row.hi × (range row.lo row.hi ≡ span_numbers row)
-row_stands row lo hi s e = go (span_stands row) refl
-  where
-    go : (b : Bool) → span_stands row ≡ b → Stands row.lo row.hi × (range row.lo row.hi ≡ span_numbers row)
-    go true q =
-        let a : row.lo ≤ℤ row.hi = grind (arith, ints, tests) in
-        let l : negsuc 999999 ≤ℤ row.lo = grind (arith, ints, tests) in
-        let h : row.hi ≤ℤ pos 1000000 = grind (arith, ints, tests) in
-        ((a, l, h), sym (row_is row a l h))
-    go false q = absurd (not_none (range lo hi) (range_some lo hi s.0) (e ∙ row_none row q))
-
--- the window of a row that passes its check
-pub window_from : (row : SpanRow) (s : List ℤ) (r : Option Span) → Stands row.lo row.hi → range row.lo row.hi ≡ s → MatchOption r (span_numbers row ≡ []) (λ w. range w.lo w.hi ≡ span_numbers row) → WindowOf s r
-window_from row s None t e c = sym e ∙ sym (row_is row t.0 t.1 t.2) ∙ c
-window_from row s (Some w) t e c = c ∙ row_is row t.0 t.1 t.2 ∙ e
+-- ---- the terms of a sum
+pub fit_is : (s : Sum) → Fit (terms_of s)
+fit_is s = let t = length-take s.terms.len s.terms.slots in let f = s.terms.few in record { few = omega arith; near = s.near; different = s.different; weights = s.weights }
 
 pub weight_fits : (w : ℤ) → Weighs w → SFits w32 w
 weight_fits w f = omega (arith, ints)
@@ -199,5 +173,5 @@ entries_outcome ts b exact T e =
 pub tells_some : (ts : List Term) (b : ℤ) (exact : Bool) (T U : Table) (es : List Entry) (r : Narrowing) → all_read ts T ≡ true → es ≡ entries (sum_new ts b exact T) ts → Tells T (written T es) r U → Tells T (outcome (rule_of (sum_rule ts b exact)) T) r U
 tells_some ts b exact T U es r a e t = subst (λ o. Tells T o r U) (ap (written T) e ∙ entries_outcome ts b exact T a) t
 
-pub tells_none : (ts : List Term) (b : ℤ) (exact : Bool) (T : Table) (s : WindowSet) → all_read ts T ≡ false → ((j : ℕ) → member s j ≡ false) → Tells T (outcome (rule_of (sum_rule ts b exact)) T) (Changed s) T
-tells_none ts b exact T s a e = subst (λ o. Tells T o (Changed s) T) (sym (unread_outcome ts b exact T a)) (refl, λ j. e j ∙ sym (same_window T j))
+pub tells_none : (ts : List Term) (b : ℤ) (exact : Bool) (T : Table) (s : WindowSet) → all_read ts T ≡ false → ((j : ℕ) → member s j ≡ false) → Tells T (outcome (rule_of (sum_rule ts b exact)) T) (Ok s) T
+tells_none ts b exact T s a e = subst (λ o. Tells T o (Ok s) T) (sym (unread_outcome ts b exact T a)) (refl, λ j. e j ∙ sym (same_window T j))

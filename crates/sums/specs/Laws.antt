@@ -3,10 +3,9 @@ use Rattle.std.specs.Prelude.{◌≡◌, ℕ, ◌≤◌, Bool, true, false, List
 use Rattle.windows.specs.Sets.{In}
 use Rattle.rulebook.specs.Tables.{Table, Placing, window, place, all_filled}
 use Rattle.rulebook.specs.Rules.{Means}
+use Rattle.rulebook.specs.Answers.{Narrowing}
 use Rattle.rulebook.specs.declared.answer.BookRefusal.{BookRefusal}
-use Rattle.rulebook.specs.declared.answer.Narrowing.{Narrowing}
-use Rattle.rulebook.specs.declared.answer.Narrowing.TheVariants.{Changed, Emptied}
-use Rattle.sums.specs.Sums.{in_terms, terms_reach, weight_at, term_at, total_but, smallest_but, largest_but, sum_of}
+use Rattle.sums.specs.Sums.{is_exact, in_terms, terms_reach, weight_at, term_at, total_but, smallest_but, largest_but, sum_of}
 use Rattle.sums.specs.Questions.{given}
 use Rattle.sums.specs.Meaning.{terms_of, sum_meaning}
 use Rattle.sums.specs.Steps.{all_read}
@@ -39,8 +38,8 @@ pub record Kept (ts : List Term) (b : ℤ) (exact : Bool) (T U : Table) (j : ℕ
 -- A narrowing of T by the sum that left U: each window of a term has exactly the numbers that it keeps, where all windows had
 -- numbers and those of the terms are in the table; and a window that would be emptied keeps none.
 abbrev pub SumKeeps : Sum → Table → Narrowing → Table → Type 0
-SumKeeps s T (Changed w) U = all_filled T ≡ true → terms_reach (terms_of s) ≤ length T → (j : ℕ) → in_terms (terms_of s) j ≡ true → Kept (terms_of s) s.bound s.exact T U j
-SumKeeps s T (Emptied k) U = (v : ℤ) → Keeps (terms_of s) s.bound s.exact T k v → ⊥
+SumKeeps s T (Ok w) U = all_filled T ≡ true → terms_reach (terms_of s) ≤ length T → (j : ℕ) → in_terms (terms_of s) j ≡ true → Kept (terms_of s) s.bound (is_exact s.relation) T U j
+SumKeeps s T (Err e) U = (v : ℤ) → Keeps (terms_of s) s.bound (is_exact s.relation) T e.window v → ⊥
 
 -- the placing has a number out of the window of every term
 abbrev pub Takes : List Term → Placing → Table → Type 0

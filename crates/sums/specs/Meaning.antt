@@ -1,9 +1,10 @@
 -- What a sum means, and what its check answers.
-use Rattle.std.specs.Prelude.{◌≡◌, ℕ, Bool, List, take, Some, None, Ok, Err, Result}
+use Rattle.std.specs.Prelude.{◌≡◌, ℕ, Bool, List, Some, None, Ok, Err, Result}
 use Rattle.rulebook.specs.Rules.{Rule}
 use Rattle.rulebook.specs.declared.answer.BookRefusal.{BookRefusal}
+use Rattle.bounded.specs.Lists.{items}
 use Rattle.rules.specs.Pointwise.{rule_of}
-use Rattle.sums.specs.Sums.{sum_rule}
+use Rattle.sums.specs.Sums.{is_exact, sum_rule}
 use Rattle.sums.specs.Questions.{given, sum_asks}
 use Rattle.sums.specs.declared.posted.Term.{Term}
 use Rattle.sums.specs.declared.posted.PostedSum.{PostedSum}
@@ -11,11 +12,11 @@ use Rattle.sums.specs.declared.sum.Sum.{Sum}
 
 -- the terms of a sum
 abbrev pub terms_of : Sum → List Term
-terms_of s = take s.len s.terms
+terms_of s = items s.terms
 
 -- the rule that a sum means
 abbrev pub sum_meaning : Sum → Rule
-sum_meaning s = rule_of (sum_rule (terms_of s) s.bound s.exact)
+sum_meaning s = rule_of (sum_rule (terms_of s) s.bound (is_exact s.relation))
 
 -- the rule that a sum means as it is handed in
 abbrev pub posted_meaning : PostedSum → Bool → Rule

@@ -1,28 +1,18 @@
 -- What the steps of a narrowing by a sum answer.
-use Rattle.std.specs.Prelude.{◌≡◌, ℕ, ◌≤◌, Bool, true, false, ◌&&◌, List, [], ◌∷◌, map, length, ℤ, Some, None, Option}
+use Rattle.std.specs.Prelude.{◌≡◌, ℕ, ◌≤◌, Bool, true, false, ◌&&◌, List, [], ◌∷◌, map, length, ℤ, Some, None, Option, MatchOption}
 use Rattle.windows.specs.Sets.{range}
-use Rattle.windows.specs.Rows.{Stands}
 use Rattle.windows.specs.declared.span.Span.{Span}
-use Rattle.windows.specs.declared.span.SpanRow.{SpanRow}
 use Rattle.rulebook.specs.Tables.{Table, window, filled}
 use Rattle.sums.specs.Sums.{smallest, largest}
 use Rattle.rules.specs.Pointwise.{Entry}
-use Rattle.rules.specs.Writing.{listed}
-use Rattle.rules.specs.declared.new_windows.NewWindows.{NewWindows}
 use Rattle.sums.specs.Questions.{windows_below, Apart, weights_fit}
 use Rattle.sums.specs.Sizes.{Small}
 use Rattle.sums.specs.declared.posted.Term.{Term}
-use Rattle.sums.specs.declared.sum.narrow.Extremes.{Extremes}
-
--- a row that passes its check, with the numbers s; none where there are none
-abbrev pub RowOf : List ℤ → Option SpanRow → Type 0
-RowOf s None = s ≡ []
-RowOf s (Some row) = Stands row.lo row.hi × (range row.lo row.hi ≡ s)
+use Rattle.sums.specs.declared.ends.Ends.{Ends}
 
 -- a window with the numbers s; none where there are none
 abbrev pub WindowOf : List ℤ → Option Span → Type 0
-WindowOf s None = s ≡ []
-WindowOf s (Some w) = range w.lo w.hi ≡ s
+WindowOf s r = MatchOption r (s ≡ []) (λ w. range w.lo w.hi ≡ s)
 
 -- has the window of every term a number
 abbrev pub all_read : List Term → Table → Bool
@@ -30,9 +20,9 @@ all_read [] T = true
 all_read (t ∷ ts) T = filled (window T t.window) && all_read ts T
 
 -- the least and the greatest sum of the terms, none where the window of a term is missing
-abbrev pub ExtremesOf : List Term → Table → Option Extremes → Type 0
+abbrev pub ExtremesOf : List Term → Table → Option Ends → Type 0
 ExtremesOf ts T None = all_read ts T ≡ false
-ExtremesOf ts T (Some e) = (all_read ts T ≡ true) × (e.least ≡ smallest ts T) × (e.greatest ≡ largest ts T) × Small 80000000000 e.least × Small 80000000000 e.greatest
+ExtremesOf ts T (Some e) = (all_read ts T ≡ true) × (e.from ≡ smallest ts T) × (e.to ≡ largest ts T) × Small 80000000000 e.from × Small 80000000000 e.to
 
 -- the terms of an accepted sum
 pub record Fit (ts : List Term) : Type 0 where
@@ -44,7 +34,3 @@ pub record Fit (ts : List Term) : Type 0 where
 -- a new window for the window of each term
 abbrev pub entries : (ℕ → List ℤ) → List Term → List Entry
 entries new ts = map (λ t. record { at = t.window; new = new t.window }) ts
-
--- the new windows that a list holds
-abbrev pub new_entries : NewWindows Span → List Entry
-new_entries ws = listed (λ w. range w.lo w.hi) ws.items ws.len

@@ -1,9 +1,16 @@
 -- The rules "sum equals" and "sum at most": w1·v1 + … + wt·vt against a bound b.
-use Rattle.std.specs.Prelude.{ℕ, suc, max, Bool, false, cond, not, ◌&&◌, ◌||◌, List, [], ◌∷◌, ℤ, pos, ◌+ℤ◌, ◌-ℤ◌, ◌*ℤ◌, filter, ◌==◌, int_le}
+use Rattle.std.specs.Prelude.{ℕ, suc, max, Bool, true, false, cond, not, ◌&&◌, ◌||◌, List, [], ◌∷◌, ℤ, pos, ◌+ℤ◌, ◌-ℤ◌, ◌*ℤ◌, filter, ◌==◌, int_le}
 use Rattle.windows.specs.Sets.{least_by, greatest_by}
 use Rattle.rulebook.specs.Tables.{Table, Placing, window, place}
 use Rattle.rules.specs.Pointwise.{Pointwise}
 use Rattle.sums.specs.declared.posted.Term.{Term}
+use Rattle.sums.specs.declared.posted.Relation.{Relation}
+use Rattle.sums.specs.declared.posted.Relation.TheVariants.{Equals, AtMost}
+
+-- is the sum to equal its bound
+abbrev pub is_exact : Relation → Bool
+is_exact Equals = true
+is_exact AtMost = false
 
 -- is window j one of the terms'
 abbrev pub in_terms : List Term → ℕ → Bool

@@ -4,13 +4,21 @@
 pub const MOST_TERMS: usize = 8;
 
 // A weight times the number of a window.
-#[derive(Clone, Copy)]
+#[derive(Clone, Copy, Default)]
 pub struct Term {
     pub window: usize,
     pub weight: i32,
 }
 
-// The terms and the bound of a sum. `count` says how many terms were given, of which the first eight are kept.
+// How a sum is to stand to its bound.
+#[derive(Clone, Copy, PartialEq, Debug)]
+pub enum Relation {
+    Equals,
+    AtMost,
+}
+
+// The terms and the bound of a sum. `count` says how many terms were given, of which the first eight are kept. It may be past
+// eight, as no list's length is: a sum of too many terms is refused by its questions, and not where it is put together.
 #[derive(Clone, Copy)]
 pub struct PostedSum {
     pub bound: i32,

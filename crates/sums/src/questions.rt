@@ -1,5 +1,5 @@
 // The questions that are asked of a sum.
-ghost use Rattle.std.specs.Prelude.{◌≡◌, drop};
+ghost use Rattle.std.specs.Prelude.{◌≡◌, Some, None, MatchResult};
 ghost use Rattle.sums.specs.Sums.{in_terms};
 ghost use Rattle.sums.specs.Questions.{windows_below, apart, weighs, weights_fit, bound_fits, given, sum_asks};
 
@@ -13,41 +13,26 @@ const MOST_WINDOWS: usize = 64;
 pub fn has_window(terms: &[Term], j: usize) -> bool
     ensures { result ≡ in_terms terms.now j }
 {
-    for term in terms {
-        if term.window == j {
-            return true;
-        }
-    }
-    false
+    terms.iter().any(|term| term.window == j)
 }
 
 // Is every window number below n?
 fn windows_below(terms: &[Term], n: usize) -> bool
     ensures { result ≡ windows_below n terms.now }
 {
-    for term in terms {
-        if term.window >= n {
-            return false;
-        }
-    }
-    true
-}
-
-// The terms from number `at` on.
-fn later(terms: &[Term], at: usize) -> &[Term]
-    ensures { result.now ≡ drop at terms.now }
-{
-    if at < terms.len() { &terms[at..] } else { &[] }
+    terms.iter().all(|term| term.window < n)
 }
 
 // Are all window numbers different?
 fn apart(terms: &[Term]) -> bool
     ensures { result ≡ apart terms.now }
 {
-    for (i, term) in terms.iter().enumerate() {
-        if has_window(later(terms, i + 1), term.window) {
+    let mut rest = terms;
+    while let [term, later @ ..] = rest {
+        if has_window(later, term.window) {
             return false;
         }
+        rest = later;
     }
     true
 }
@@ -56,22 +41,14 @@ fn apart(terms: &[Term]) -> bool
 fn weighs(weight: i32) -> bool
     ensures { result ≡ weighs weight }
 {
-    if weight == 0 {
-        return false;
-    }
-    weight >= -10_000 && weight <= 10_000
+    weight != 0 && weight >= -10_000 && weight <= 10_000
 }
 
 // Does every weight fit?
 fn weights_fit(terms: &[Term]) -> bool
     ensures { result ≡ weights_fit terms.now }
 {
-    for term in terms {
-        if !weighs(term.weight) {
-            return false;
-        }
-    }
-    true
+    terms.iter().all(|term| weighs(term.weight))
 }
 
 // Is the bound within 1,000,000,000?
@@ -82,35 +59,31 @@ fn bound_fits(bound: i32) -> bool
 }
 
 // The terms that were given, the first eight where there are more.
-fn given(post: &PostedSum) -> &[Term]
+pub fn given(post: &PostedSum) -> &[Term]
     ensures { result.now ≡ given post.now }
 {
-    if post.count < MOST_TERMS {
-        &post.terms[0..post.count]
-    } else {
-        &post.terms
-    }
+    &post.terms[..post.count.min(MOST_TERMS)]
 }
 
-// What the sum is refused for on n windows.
-pub fn refusal(post: &PostedSum, n: usize) -> Option<BookRefusal>
-    ensures { result ≡ sum_asks post.now n }
+// Asks all questions of the sum on n windows.
+pub fn ask(post: &PostedSum, n: usize) -> Result<(), BookRefusal>
+    ensures { MatchResult result (λ _. sum_asks post.now n ≡ None) (λ f. sum_asks post.now n ≡ Some f) }
 {
     if post.count == 0 || post.count > MOST_TERMS {
-        return Some(BookRefusal::Terms);
+        return Err(BookRefusal::Terms);
     }
     let terms = given(post);
     if !windows_below(terms, n.min(MOST_WINDOWS)) {
-        return Some(BookRefusal::Window);
+        return Err(BookRefusal::Window);
     }
     if !apart(terms) {
-        return Some(BookRefusal::Repeated);
+        return Err(BookRefusal::Repeated);
     }
     if !weights_fit(terms) {
-        return Some(BookRefusal::Weight);
+        return Err(BookRefusal::Weight);
     }
     if !bound_fits(post.bound) {
-        return Some(BookRefusal::Bound);
+        return Err(BookRefusal::Bound);
     }
-    None
+    Ok(())
 }

@@ -1,23 +1,34 @@
 // Sums that passed their questions.
-ghost use Rattle.std.specs.Prelude.{◌≡◌, ◌<◌, ◌≤◌, true, take};
+ghost use Rattle.std.specs.Prelude.{◌≡◌, ◌<◌, true, length};
+ghost use Rattle.bounded.specs.Lists.{items};
 ghost use Rattle.sums.specs.Questions.{windows_below, apart, weights_fit, bound_fits};
 
 mod check;
 mod narrow;
 
-use crate::posted::{MOST_TERMS, Term};
+use crate::posted::{MOST_TERMS, Relation, Term};
+use bounded::BoundedList;
 
-// The sum of the first `len` terms is to equal the bound or, unless it is exact, to be at most the bound.
+// The sum of the terms is to equal the bound, or to be at most the bound.
 #[derive(Clone, Copy)]
 pub struct Sum {
     bound: i32,
-    terms: [Term; MOST_TERMS],
-    len: usize,
-    exact: bool,
-    ghost some: { 0 < len },
-    ghost few: { len ≤ 8 },
-    ghost near: { windows_below 64 (take len terms) ≡ true },
-    ghost different: { apart (take len terms) ≡ true },
-    ghost weights: { weights_fit (take len terms) ≡ true },
+    terms: BoundedList<Term, MOST_TERMS>,
+    relation: Relation,
+    ghost some: { 0 < length (items terms) },
+    ghost near: { windows_below 64 (items terms) ≡ true },
+    ghost different: { apart (items terms) ≡ true },
+    ghost weights: { weights_fit (items terms) ≡ true },
     ghost bounded: { bound_fits bound ≡ true },
+}
+
+impl Sum {
+    ghost use Rattle.sums.specs.Meaning.{terms_of};
+
+    // The terms.
+    fn terms(&self) -> &[Term]
+        ensures { result.now ≡ terms_of self.now }
+    {
+        self.terms.as_slice()
+    }
 }

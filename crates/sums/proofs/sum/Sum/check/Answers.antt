@@ -1,20 +1,14 @@
-use Rattle.std.proofs.Common.{sym, refl, w32, SFits, rules}
+use Rattle.std.proofs.Common.{◌≡◌, ◌<◌, true, length, sym, ◌∙◌, subst, w32, SFits, rules}
 use Rattle.std.proofs.lemmas.Int.{to_z-of_z}
-use Rattle.sums.specs.Questions.{given}
-use Rattle.sums.proofs.QuestionLaws.{accepted, count_is, below_64}
-use Rattle.sums.proofs.MeaningLaws.{sum_means}
+use Rattle.sums.specs.Questions.{windows_below, apart, weights_fit, given}
+use Rattle.sums.proofs.QuestionLaws.{accepted, some_given, below_64}
 use Rattle.sums.proofs.sum.Sum.check.Goals as goal
 
 pub invariant_of-result : goal.invariant_of-result
 invariant_of-result c =
     let p = c.args.post in
     let f : SFits w32 c.args.post.bound = search rules in
-    let a = accepted p c.args.n (sym c.in-None.ensures) in
-    let k = count_is p.count a.terms in
-    simp to_z-of_z record { some = k.0; few = k.1; near = below_64 c.args.n (given p) a.windows; different = a.different; weights = a.weights; bounded = a.bounded }
-
-pub returns-in-None : goal.returns-in-None
-returns-in-None c =
-    let p = c.args.post in
-    let f : SFits w32 c.args.post.bound = search rules in
-    simp to_z-of_z (record { equation = (sym c.in-None.ensures, refl); means = sum_means (given p) p.bound c.args.exact })
+    let a = accepted p c.args.n c.in_ok-ask.ensures in
+    let k = sym (c.kept.ensures ∙ c.given.ensures) in
+    let l : length p.terms ≡ 8 = search rules in
+    simp to_z-of_z record { some = subst (λ ts. 0 < length ts) k (some_given p l a.terms); near = subst (λ ts. windows_below 64 ts ≡ true) k (below_64 c.args.n (given p) a.windows); different = subst (λ ts. apart ts ≡ true) k a.different; weights = subst (λ ts. weights_fit ts ≡ true) k a.weights; bounded = a.bounded }
