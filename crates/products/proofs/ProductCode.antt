@@ -1,11 +1,10 @@
 -- What the code of the product rule computes, as numbers.
-use Rattle.std.proofs.Common.{◌≡◌, ℕ, suc, ◌*◌, ◌≤◌, true, false, ◌&&◌, ◌⊎◌, ℤ, pos, negsuc, ◌-ℤ◌, ◌*ℤ◌, neg_ℤ, ◌≤ℤ◌, ◌<ℤ◌, sym, ap, ◌∙◌, subst, ap₂, subst₂, inl, inr, mul-le-mul, arith, w64, SFits}
-use lib.IntN.{*ℤ_comm, +ℤ_idl}
+use Rattle.std.proofs.Common.{◌≡◌, suc, true, false, ◌&&◌, ◌⊎◌, ℤ, pos, negsuc, ◌*ℤ◌, neg_ℤ, nat_abs, ◌≤ℤ◌, ◌<ℤ◌, sym, ap, ◌∙◌, subst, ap₂, subst₂, inl, inr, arith, w32, w64, to_z, of_z}
+use lib.IntN.{*ℤ_comm}
 use lib.Signed.{le_z, lt_z}
 use Rattle.std.specs.Int.{int_min, int_max, int_div_euclid}
 use Rattle.std.proofs.lemmas.Int.{ints, clamps}
 use Rattle.windows.specs.Sets.{In, range, between}
-use Rattle.windows.specs.Rows.{Stands}
 use Rattle.windows.specs.SetLaws.{tests, never, le_z_tells, lt_z_tells, bool_same, min_z_tells, max_z_tells, between_is, is_between, range_some}
 use Rattle.windows.specs.SpanLaws.{in_range, range_in}
 use Rattle.sums.specs.Sizes.{Small}
@@ -227,15 +226,21 @@ among_left a b c d v p q h = bool_same _ _ there back
         go : Over (neg_ℤ b) (neg_ℤ d) (neg_ℤ c) v × Under (neg_ℤ a) (neg_ℤ d) (neg_ℤ c) v → among_quotients a b c d v ≡ true
         go (o, u) = among_in a b c d v (inr (p, q)) (over u) (under o)
 
--- ---- sizes
-size_bound : (a b : ℕ) → a ≤ 1000000 → b ≤ 1000000 → a * b ≤ 1000000000000
-size_bound a b h k = mul-le-mul h k
+-- ---- what the code computes
+-- a corner, as the code multiplies it
+pub corner : (r x y a b : ℤ) → r ≡ to_z w32 (of_z w32 x) *ℤ to_z w32 (of_z w32 y) → x ≡ a → y ≡ b → Small 1000000 a → Small 1000000 b → r ≡ a *ℤ b
+corner r x y a b e p q h k =
+    let m : to_z w32 (of_z w32 x) ≡ a = omega (arith, ints, clamps) in
+    let n : to_z w32 (of_z w32 y) ≡ b = omega (arith, ints, clamps) in
+    e ∙ ap₂ ◌*ℤ◌ m n
 
-pub times_small : (x y : ℤ) → Small 1000000 x → Small 1000000 y → Small 1000000000000 (x *ℤ y)
-times_small (pos a) (pos b) w s = let m = size_bound a b (omega (arith, ints)) (omega (arith, ints)) in (omega (arith, ints), omega (arith, ints))
-times_small (pos a) (negsuc b) w s = let m = size_bound a (suc b) (omega (arith, ints)) (omega (arith, ints)) in (omega (arith, ints), omega (arith, ints))
-times_small (negsuc a) (pos b) w s = let m = size_bound (suc a) b (omega (arith, ints)) (omega (arith, ints)) in (omega (arith, ints), omega (arith, ints))
-times_small (negsuc a) (negsuc b) w s = let m = size_bound (suc a) (suc b) (omega (arith, ints)) (omega (arith, ints)) in (omega (arith, ints), omega (arith, ints))
+-- the larger of two sizes, as the code computes it
+pub sizes : (a b x y e : ℤ) → Small 1000000 a → Small 1000000 b → x ≡ pos (nat_abs (to_z w64 (of_z w64 a))) → y ≡ pos (nat_abs (to_z w64 (of_z w64 b))) → e ≡ int_max (to_z w64 (of_z w64 x)) (to_z w64 (of_z w64 y)) → (e ≡ size a b) × Small 1000000 e
+sizes a b x y e h k p q m = (omega (arith, ints, clamps), (omega (arith, ints, clamps), omega (arith, ints, clamps)))
+
+-- a weak division of the same ends
+pub weak_at : (a b c d a' b' c' d' v : ℤ) → (a' ≡ a) × (b' ≡ b) → (c' ≡ c) × (d' ≡ d) → weakly_divides a b c d v ≡ weakly_divides a' b' c' d' v
+weak_at a b c d a' b' c' d' v (p, q) (r, s) = cc
 
 -- ---- the cases of a weak division, as the code tells them apart
 not_both : (a b c d : ℤ) → between a b (pos 0) ≡ true → between c d (pos 0) ≡ true → (between a b (pos 0) && between c d (pos 0)) ≡ false → ⊥
@@ -303,13 +308,3 @@ joined_least a b c d w x y z r h k ew ex ey ez e = e ∙ ap₂ int_min (ap₂ in
 
 pub joined_greatest : (a b c d w x y z r : ℤ) → a ≤ℤ b → c ≤ℤ d → w ≡ a *ℤ c → x ≡ a *ℤ d → y ≡ b *ℤ c → z ≡ b *ℤ d → r ≡ max4 w x y z → r ≡ greatest_product (range a b) (range c d)
 joined_greatest a b c d w x y z r h k ew ex ey ez e = e ∙ ap₂ int_max (ap₂ int_max ew ex) (ap₂ int_max ey ez) ∙ sym (greatest_corner a b c d h k)
-
-pub negative_is : (e : ℤ) → neg_ℤ e ≡ pos 0 -ℤ e
-negative_is e = sym (+ℤ_idl (neg_ℤ e))
-
--- ---- what fits 64 bits
-pub fits : (z : ℤ) → Small 1000000000000 z → SFits w64 z
-fits z s = omega (arith, ints)
-
-pub ends_small : (lo hi : ℤ) → Stands lo hi → Small 1000000 lo × Small 1000000 hi
-ends_small lo hi s = ((omega (arith, ints), omega (arith, ints)), (omega (arith, ints), omega (arith, ints)))

@@ -1,5 +1,5 @@
 -- The new windows of a product, as lists.
-use Rattle.std.proofs.Common.{◌≡◌, ℕ, ◌<◌, true, false, ◌||◌, eqb, List, [], ◌∷◌, length, ℤ, pos, negsuc, ◌≤ℤ◌, Option, sym, refl, ap, ◌∙◌, subst, ap₂, arith}
+use Rattle.std.proofs.Common.{◌≡◌, ℕ, ◌<◌, true, false, ◌||◌, eqb, ltb, List, [], ◌∷◌, length, ℤ, pos, negsuc, ◌≤ℤ◌, None, Option, MatchOption, sym, refl, ap, ◌∙◌, subst, ap₂, arith}
 use Rattle.std.specs.Int.{int_min, int_max}
 use Rattle.std.proofs.lemmas.Int.{ints}
 use Rattle.std.proofs.lemmas.Bool.Decides.{nat_tests}
@@ -9,11 +9,13 @@ use Rattle.windows.specs.declared.span.Span.{Span}
 use Rattle.windows.specs.SetLaws.{kept_range, least_range, greatest_range, range_some}
 use Rattle.windows.proofs.KindLaws.{not_none}
 use Rattle.rulebook.specs.Tables.{Table, window}
+use Rattle.rulebook.specs.Rules.{narrowed}
 use Rattle.rulebook.specs.Answers.{outcome}
 use Rattle.rules.specs.Pointwise.{rule_of, Entry, written}
-use Rattle.rules.proofs.WritingLaws.{window_inside, written_made, outcome_none, written_none_is}
+use Rattle.rules.specs.Writing.{pushed}
+use Rattle.rules.proofs.WritingLaws.{window_inside, written_made, outcome_none}
 use Rattle.sums.specs.Steps.{WindowOf}
-use Rattle.products.specs.Products.{least_product, greatest_product, multiplied, weakly_divides, divided, product_new, product_reads, product_rule, repeated}
+use Rattle.products.specs.Products.{least_product, greatest_product, multiplied, weakly_divides, divided, product_new, product_reads, product_rule, repeated, Apart}
 use Rattle.products.proofs.ProductLaws.{of_same, at_p, at_q, at_r, product_unread, product_covers}
 
 -- ---- one window
@@ -62,6 +64,19 @@ three_written p q r T es a b c d e f x y z n h k l wp wq wr i ex ey ez =
     unread : (j : ℕ) → (eqb p j || (eqb q j || (eqb r j || false))) ≡ false → product_reads p q r j ≡ false
     unread j u = grind arith
 
+-- so they are listed
+pub three_pushed : (p q r : ℕ) (es fs gs hs : List Entry) (x y z : List ℤ) → Apart p q r → es ≡ [] → fs ≡ pushed es (record { at = p; new = x }) → gs ≡ pushed fs (record { at = q; new = y }) → hs ≡ pushed gs (record { at = r; new = z }) → hs ≡ three_entries p q r x y z
+three_pushed p q r es fs gs hs x y z (a, b) i j k l =
+    let bp : ltb p 64 ≡ true = grind (arith, nat_tests) in
+    let bq : ltb q 64 ≡ true = grind (arith, nat_tests) in
+    let br : ltb r 64 ≡ true = grind (arith, nat_tests) in
+    let pq : eqb p q ≡ false = grind (arith, nat_tests) in
+    let pr : eqb p r ≡ false = grind (arith, nat_tests) in
+    let qr : eqb q r ≡ false = grind (arith, nat_tests) in
+    let f : fs ≡ record { at = p; new = x } ∷ [] = j ∙ ap (λ l. pushed l (record { at = p; new = x })) i ∙ rw bp refl in
+    let g : gs ≡ record { at = p; new = x } ∷ (record { at = q; new = y } ∷ []) = k ∙ ap (λ l. pushed l (record { at = q; new = y })) f ∙ rw (bq, pq) refl in
+    l ∙ ap (λ l. pushed l (record { at = r; new = z })) g ∙ rw (br, pr, qr) refl
+
 -- where one of the three windows is missing, nothing is done
-pub none_written : (p q r j : ℕ) (T : Table) (es : List Entry) → product_reads p q r j ≡ true → window T j ≡ [] → es ≡ [] → written T es ≡ outcome (rule_of (product_rule p q r)) T
-none_written p q r j T es h z e = ap (written T) e ∙ written_none_is T ∙ sym (outcome_none (product_rule p q r) T j z (product_covers p q r j h))
+pub missing : {A : Type 0} (p q r j : ℕ) (T : Table) (o : Option A) (P : A → Type 0) → product_reads p q r j ≡ true → window T j ≡ [] → o ≡ None → MatchOption o (outcome (rule_of (product_rule p q r)) T ≡ narrowed T) P
+missing p q r j T o P h z e = subst (λ o. MatchOption o (outcome (rule_of (product_rule p q r)) T ≡ narrowed T) P) (sym e) (outcome_none (product_rule p q r) T j z (product_covers p q r j h))

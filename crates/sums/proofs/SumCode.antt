@@ -1,5 +1,5 @@
 -- What the code of the sum rules computes, as numbers.
-use Rattle.std.proofs.Common.{◌≡◌, ℕ, zero, suc, ◌*◌, ◌<◌, ◌≤◌, Bool, true, false, cond, not, ◌&&◌, ◌||◌, leb, ℤ, pos, negsuc, ◌-ℤ◌, ◌*ℤ◌, neg_ℤ, nat_abs, ◌≤ℤ◌, ◌<ℤ◌, sym, refl, ap, ◌∙◌, subst, ap₂, mul_comm, div-lt_iff_lt-mul, mul-le-mul, le-div_iff_mul-le, div-le_self, arith, w32, w64, SFits, to_z, of_z}
+use Rattle.std.proofs.Common.{◌≡◌, ℕ, zero, suc, ◌*◌, ◌<◌, ◌≤◌, Bool, true, false, cond, not, ◌&&◌, ◌||◌, leb, ℤ, pos, negsuc, ◌-ℤ◌, ◌*ℤ◌, neg_ℤ, nat_abs, ◌≤ℤ◌, ◌<ℤ◌, sym, refl, ap, ◌∙◌, subst, ap₂, mul_comm, div-lt_iff_lt-mul, mul-le-mul, le-div_iff_mul-le, div-le_self, arith, w32, w64, to_z, of_z}
 use lib.IntN.{neg_ℤ-neg_ℤ, +ℤ_idl}
 use lib.Signed.{le_z}
 use Rattle.std.specs.Int.{int_min, int_max, int_div_euclid}
@@ -47,8 +47,8 @@ pub ends_small : (lo hi : ℤ) → Stands lo hi → Small 1000000 lo × Small 10
 ends_small lo hi s = ((omega (arith, ints), omega (arith, ints)), (omega (arith, ints), omega (arith, ints)))
 
 -- the product of a weight and an end of a span, as the code makes it
-pub wide : (a b e w v : ℤ) → a ≡ to_z w32 (of_z w32 w) → b ≡ to_z w32 (of_z w32 e) → e ≡ v → Weighs w → Small 1000000 v → (to_z w64 (of_z w64 (to_z w64 (of_z w64 a) *ℤ to_z w64 (of_z w64 b))) ≡ w *ℤ v) × Small 10000000000 (w *ℤ v)
-wide a b e w v p q r h k =
+pub wide : (a b w v : ℤ) → a ≡ to_z w32 (of_z w32 w) → b ≡ v → Weighs w → Small 1000000 v → (to_z w64 (of_z w64 (to_z w64 (of_z w64 a) *ℤ to_z w64 (of_z w64 b))) ≡ w *ℤ v) × Small 10000000000 (w *ℤ v)
+wide a b w v p q h k =
     let s = times_small w v h k in
     let x : to_z w64 (of_z w64 a) ≡ w = omega (arith, ints, clamps) in
     let y : to_z w64 (of_z w64 b) ≡ v = omega (arith, ints, clamps) in
@@ -173,6 +173,3 @@ quotients_neg (negsuc n) exact low high size above below h s a b v l =
     let q = quotients_down n exact low high v l in
     let z = +ℤ_idl (neg_ℤ above) in
     q ∙ ap₂ (λ x y. between x y v) (cc) (cc)
-
-pub widen : {z : ℤ} → SFits w32 z → SFits w64 z
-widen f = omega (arith, ints)

@@ -10,7 +10,7 @@ use Rattle.windows.specs.Rows.{Stands}
 use Rattle.windows.specs.declared.span.Span.{Span}
 use Rattle.windows.specs.SetLaws.{never, kept_range, range_some}
 use Rattle.rulebook.specs.Tables.{Table, window, filled, all_filled}
-use Rattle.rulebook.specs.Rules.{narrowed}
+use Rattle.rulebook.specs.Rules.{Outcome, narrowed}
 use Rattle.rulebook.specs.Answers.{outcome, member, Narrowing, Tells}
 use Rattle.rulebook.specs.declared.set.WindowSet.{WindowSet}
 use Rattle.rules.specs.Pointwise.{rule_of, Entry, has_entry, judged, narrow_by, written}
@@ -173,5 +173,5 @@ entries_outcome ts b exact T e =
 pub tells_some : (ts : List Term) (b : ℤ) (exact : Bool) (T U : Table) (es : List Entry) (r : Narrowing) → all_read ts T ≡ true → es ≡ entries (sum_new ts b exact T) ts → Tells T (written T es) r U → Tells T (outcome (rule_of (sum_rule ts b exact)) T) r U
 tells_some ts b exact T U es r a e t = subst (λ o. Tells T o r U) (ap (written T) e ∙ entries_outcome ts b exact T a) t
 
-pub tells_none : (ts : List Term) (b : ℤ) (exact : Bool) (T : Table) (s : WindowSet) → all_read ts T ≡ false → ((j : ℕ) → member s j ≡ false) → Tells T (outcome (rule_of (sum_rule ts b exact)) T) (Ok s) T
-tells_none ts b exact T s a e = subst (λ o. Tells T o (Ok s) T) (sym (unread_outcome ts b exact T a)) (refl, λ j. e j ∙ sym (same_window T j))
+pub tells_kept : (T : Table) (o : Outcome) (s : WindowSet) → o ≡ narrowed T → ((j : ℕ) → member s j ≡ false) → Tells T o (Ok s) T
+tells_kept T o s n e = subst (λ o. Tells T o (Ok s) T) (sym n) (refl, λ j. e j ∙ sym (same_window T j))

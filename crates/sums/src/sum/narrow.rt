@@ -24,9 +24,9 @@ fn term_extremes(weight: i32, span: &Span) -> Ends
     ensures least { (result.from ≡ least_by (λ v. weight *ℤ v) (range span.now.lo span.now.hi)) × (Small 10000000000 result.from) }
     ensures greatest { (result.to ≡ greatest_by (λ v. weight *ℤ v) (range span.now.lo span.now.hi)) × (Small 10000000000 result.to) }
 {
-    let (lo, hi) = span.ends();
-    let low = i64::from(weight) * i64::from(lo);
-    let high = i64::from(weight) * i64::from(hi);
+    let ends = Ends::from(*span);
+    let low = i64::from(weight) * ends.from;
+    let high = i64::from(weight) * ends.to;
     Ends {
         from: low.min(high),
         to: low.max(high),

@@ -1,6 +1,6 @@
-use Rattle.std.proofs.Common.{rules}
-use Rattle.products.proofs.MeaningLaws.{product_means}
+use Rattle.std.proofs.Common.{arith}
+use Rattle.windows.specs.SetLaws.{tests}
 use Rattle.products.proofs.product.Product.check.Goals as goal
 
-pub returns : goal.returns
-returns c = record { equation = search rules; means = product_means c.args.p c.args.q c.args.r }
+pub returns-clause-means : goal.returns-clause-means
+returns-clause-means c = record { only = λ P h. grind (arith, tests); all = λ P h. grind (arith, tests) }

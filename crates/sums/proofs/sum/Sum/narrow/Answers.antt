@@ -2,7 +2,7 @@ use Rattle.std.proofs.Common.{map, refl}
 use Rattle.windows.specs.Rows.{span_numbers}
 use Rattle.sums.specs.Sums.{is_exact}
 use Rattle.sums.specs.Meaning.{terms_of}
-use Rattle.sums.proofs.SumSteps.{tells_some, tells_none}
+use Rattle.sums.proofs.SumSteps.{tells_some, tells_kept, unread_outcome}
 use Rattle.sums.proofs.MeaningLaws.{narrow_keeps, sum_reached}
 use Rattle.sums.proofs.sum.Sum.narrow.Goals as goal
 
@@ -17,5 +17,5 @@ pub returns-in-None : goal.returns-in-None
 returns-in-None c =
     let s = c.args.self.now in
     let T = map span_numbers c.args.rows.now in
-    let e = tells_none (terms_of s) s.bound (is_exact s.relation) T c.empty.result c.in-None.ensures c.empty.ensures in
+    let e = tells_kept T _ c.empty.result (unread_outcome (terms_of s) s.bound (is_exact s.relation) T c.in-None.ensures) c.empty.ensures in
     record { equation = e; rows = λ j d h. refl; keeps = narrow_keeps s T _ _ e; reached = sum_reached s }

@@ -1,4 +1,4 @@
-use Rattle.std.proofs.Common.{ap, arith}
+use Rattle.std.proofs.Common.{arith}
 use Rattle.std.proofs.lemmas.Int.{ints, clamps}
 use Rattle.sums.proofs.SumCode.{wide, ends_small, least_ends, greatest_ends}
 use Rattle.sums.proofs.sum.narrow.term_extremes.Goals as goal
@@ -8,8 +8,9 @@ returns c =
     let w = c.args.weight in
     let span = c.args.span.now in
     let s = ends_small span.lo span.hi span.stands in
-    let x = wide _ _ _ w span.lo c.from.ensures c.from-2.ensures (ap (λ e. e.0) c.ends-lo.ensures) c.requires s.0 in
-    let y = wide _ _ _ w span.hi c.from-3.ensures c.from-4.ensures (ap (λ e. e.1) c.ends-lo.ensures) c.requires s.1 in
+    let e = c.from-ends.ensures in
+    let x = wide _ _ w span.lo c.from.ensures e.0 c.requires s.0 in
+    let y = wide _ _ w span.hi c.from-2.ensures e.1 c.requires s.1 in
     let m = c.min.ensures.value in
     let n = c.max.ensures.value in
     let k = least_ends w span.lo span.hi span.stands.0 in
