@@ -7,7 +7,7 @@ use pairs::Pair;
 use products::Product;
 use rulebook::{BookRefusal, Emptied, WindowSet};
 use rules::{Book, BookRule};
-use sums::Sum;
+use sums::{Relation, Sum};
 use windows::{Span, SpanRow};
 
 // A rule over spans that has passed its questions.
@@ -41,8 +41,8 @@ impl BookRule for DayRule {
 
     fn check(post: DayPost, n: usize) -> Result<DayRule, BookRefusal> {
         match post {
-            DayPost::SumEquals(sum) => Ok(DayRule::Sum(Sum::check(sum, true, n)?)),
-            DayPost::SumAtMost(sum) => Ok(DayRule::Sum(Sum::check(sum, false, n)?)),
+            DayPost::SumEquals(sum) => Ok(DayRule::Sum(Sum::check(sum, Relation::Equals, n)?)),
+            DayPost::SumAtMost(sum) => Ok(DayRule::Sum(Sum::check(sum, Relation::AtMost, n)?)),
             DayPost::Product(p, q, r) => Ok(DayRule::Product(Product::check(p, q, r, n)?)),
             DayPost::Differ(p, q) => Ok(DayRule::Differ(Pair::check(p, q, n)?)),
             DayPost::Same(p, q) => Ok(DayRule::Same(Pair::check(p, q, n)?)),
