@@ -10,10 +10,6 @@ use Rattle.windows.specs.SpanLaws.{row_is, row_none}
 use Rattle.rulebook.specs.Rules.{Rule}
 use Rattle.rulebook.specs.Answers.{Posted, posted}
 use Rattle.rulebook.specs.declared.answer.BookRefusal.{BookRefusal}
-use Rattle.rules.proofs.BookLaws.{book-length}
-use Rattle.books.specs.Day.{day_rule}
-use Rattle.books.specs.DayBooks.{day_rules}
-use Rattle.books.specs.declared.book.DayBook.{DayBook}
 
 -- a row that stands for no numbers fails its check
 pub row_fails : (r : SpanRow) → span_numbers r ≡ [] → span_stands r ≡ false
@@ -34,13 +30,6 @@ row_passes r lo hi s e = go (span_stands r) refl
     go : (t : Bool) → span_stands r ≡ t → span_stands r ≡ true
     go true q = q
     go false q = absurd (not_none (range lo hi) (range_some lo hi s.0) (e ∙ row_none r q))
-
--- a book holds as many rules as it counts
-pub rules_counted : (b : DayBook) → length (day_rules b) ≡ b.book.len
-rules_counted b =
-    let w = b.book.whole in
-    let f = b.book.few in
-    book-length day_rule b.book.slots b.book.len (omega arith)
 
 -- a refused posting leaves the rules
 pub refused_rules : (rules after : List Rule) (r : Rule) (o : Option BookRefusal) (f : BookRefusal) → posted rules r o ≡ record { answer = Err f; after = after } → after ≡ rules
