@@ -1,5 +1,5 @@
 -- What the code of the sum rules computes, as numbers.
-use Rattle.std.proofs.Common.{◌≡◌, ℕ, zero, suc, ◌*◌, ◌<◌, ◌≤◌, Bool, true, false, cond, not, ◌&&◌, ◌||◌, leb, ℤ, pos, negsuc, ◌-ℤ◌, ◌*ℤ◌, neg_ℤ, nat_abs, ◌≤ℤ◌, ◌<ℤ◌, sym, refl, ap, ◌∙◌, subst, ap₂, mul_comm, div-lt_iff_lt-mul, mul-le-mul, le-div_iff_mul-le, div-le_self, arith, w32, w64, to_z, of_z}
+use Rattle.std.proofs.Common.{◌≡◌, ℕ, zero, suc, ◌*◌, ◌<◌, ◌≤◌, Bool, true, false, cond, ℤ, pos, negsuc, ◌-ℤ◌, ◌*ℤ◌, neg_ℤ, nat_abs, ◌≤ℤ◌, ◌<ℤ◌, sym, refl, ap, ◌∙◌, ap₂, mul_comm, div-lt_iff_lt-mul, mul-le-mul, le-div_iff_mul-le, div-le_self, arith, w32, w64, to_z, of_z}
 use lib.IntN.{neg_ℤ-neg_ℤ, +ℤ_idl}
 use lib.Signed.{le_z}
 use Rattle.std.specs.Int.{int_min, int_max, int_div_euclid}
@@ -9,7 +9,7 @@ use Rattle.windows.specs.Sets.{range, between, least_by, greatest_by}
 use Rattle.windows.specs.Rows.{Stands}
 use Rattle.sums.specs.Sizes.{Weighs, Small}
 use Rattle.sums.specs.Sums.{weighed}
-use Rattle.windows.specs.SetLaws.{bool_same, least_range, greatest_range}
+use Rattle.windows.specs.SetLaws.{tests, least_range, greatest_range}
 use Rattle.sums.proofs.Signed.{mul_up, mul_down}
 
 -- ---- products
@@ -22,26 +22,14 @@ times_small (pos a) (negsuc b) w s = let m = size_bound a (suc b) (omega (arith,
 times_small (negsuc a) (pos b) w s = let m = size_bound (suc a) b (omega (arith, ints)) (omega (arith, ints)) in (omega (arith, ints), omega (arith, ints))
 times_small (negsuc a) (negsuc b) w s = let m = size_bound (suc a) (suc b) (omega (arith, ints)) (omega (arith, ints)) in (omega (arith, ints), omega (arith, ints))
 
-min_left : (x y : ℤ) → x ≤ℤ y → int_min x y ≡ x
-min_left x y h = omega (arith, ints, clamps)
-
-min_right : (x y : ℤ) → y ≤ℤ x → int_min x y ≡ y
-min_right x y h = omega (arith, ints, clamps)
-
-max_left : (x y : ℤ) → y ≤ℤ x → int_max x y ≡ x
-max_left x y h = omega (arith, ints, clamps)
-
-max_right : (x y : ℤ) → x ≤ℤ y → int_max x y ≡ y
-max_right x y h = omega (arith, ints, clamps)
-
 -- the least and the greatest product stand at the ends
 pub least_ends : (w lo hi : ℤ) → lo ≤ℤ hi → least_by (λ v. w *ℤ v) (range lo hi) ≡ int_min (w *ℤ lo) (w *ℤ hi)
-least_ends (pos n) lo hi h = least_range (λ v. pos n *ℤ v) lo hi (pos n *ℤ lo) h (λ v l g. mul_up n lo v l) lo (omega (arith, ints)) h refl ∙ sym (min_left _ _ (mul_up n lo hi h))
-least_ends (negsuc n) lo hi h = least_range (λ v. negsuc n *ℤ v) lo hi (negsuc n *ℤ hi) h (λ v l g. mul_down n v hi g) hi h (omega (arith, ints)) refl ∙ sym (min_right _ _ (mul_down n lo hi h))
+least_ends (pos n) lo hi h = let m = mul_up n lo hi h in least_range (λ v. pos n *ℤ v) lo hi (pos n *ℤ lo) h (λ v l g. mul_up n lo v l) lo (omega (arith, ints)) h refl ∙ omega (arith, ints, clamps)
+least_ends (negsuc n) lo hi h = let m = mul_down n lo hi h in least_range (λ v. negsuc n *ℤ v) lo hi (negsuc n *ℤ hi) h (λ v l g. mul_down n v hi g) hi h (omega (arith, ints)) refl ∙ omega (arith, ints, clamps)
 
 pub greatest_ends : (w lo hi : ℤ) → lo ≤ℤ hi → greatest_by (λ v. w *ℤ v) (range lo hi) ≡ int_max (w *ℤ lo) (w *ℤ hi)
-greatest_ends (pos n) lo hi h = greatest_range (λ v. pos n *ℤ v) lo hi (pos n *ℤ hi) h (λ v l g. mul_up n v hi g) hi h (omega (arith, ints)) refl ∙ sym (max_right _ _ (mul_up n lo hi h))
-greatest_ends (negsuc n) lo hi h = greatest_range (λ v. negsuc n *ℤ v) lo hi (negsuc n *ℤ lo) h (λ v l g. mul_down n lo v l) lo (omega (arith, ints)) h refl ∙ sym (max_left _ _ (mul_down n lo hi h))
+greatest_ends (pos n) lo hi h = let m = mul_up n lo hi h in greatest_range (λ v. pos n *ℤ v) lo hi (pos n *ℤ hi) h (λ v l g. mul_up n v hi g) hi h (omega (arith, ints)) refl ∙ omega (arith, ints, clamps)
+greatest_ends (negsuc n) lo hi h = let m = mul_down n lo hi h in greatest_range (λ v. negsuc n *ℤ v) lo hi (negsuc n *ℤ lo) h (λ v l g. mul_down n lo v l) lo (omega (arith, ints)) h refl ∙ omega (arith, ints, clamps)
 
 pub ends_small : (lo hi : ℤ) → Stands lo hi → Small 1000000 lo × Small 1000000 hi
 ends_small lo hi s = ((omega (arith, ints), omega (arith, ints)), (omega (arith, ints), omega (arith, ints)))
@@ -64,14 +52,6 @@ pub neg_times : (n : ℕ) (v : ℤ) → negsuc n *ℤ v ≡ neg_ℤ (pos (suc n)
 neg_times n (pos k) = refl
 neg_times n (negsuc k) = sym (neg_ℤ-neg_ℤ (pos (suc n * suc k)))
 
-below_neg : (k a : ℕ) → le_z (neg_ℤ (pos k)) (negsuc a) ≡ leb (suc a) k
-below_neg zero a = grind (arith, nat_tests)
-below_neg (suc k) a = grind (arith, nat_tests)
-
-above_neg : (k a : ℕ) → le_z (neg_ℤ (pos k)) (pos a) ≡ true
-above_neg zero a = grind (arith, nat_tests)
-above_neg (suc k) a = refl
-
 -- v is at most the quotient exactly if the divisor times v is at most the number
 pub floor_is : (m : ℕ) → 0 < m → (x v : ℤ) → le_z v (int_div_euclid x (pos m)) ≡ le_z (pos m *ℤ v) x
 floor_is m h (pos a) (pos c) =
@@ -79,14 +59,13 @@ floor_is m h (pos a) (pos c) =
     let e = (le-div_iff_mul-le {k = m} {x = c} {y = a} h).1 in
     let f = mul_comm c m in
     grind (arith, nat_tests)
-floor_is m h (pos a) (negsuc c) = sym (above_neg (m * suc c) a)
+floor_is m h (pos a) (negsuc c) = grind (arith, ints, tests)
 floor_is m h (negsuc a) (pos c) = refl
 floor_is m h (negsuc a) (negsuc c) =
     let d = (div-lt_iff_lt-mul {k = m} {x = a} {y = suc c} h).0 in
     let e = (div-lt_iff_lt-mul {k = m} {x = a} {y = suc c} h).1 in
     let f = mul_comm (suc c) m in
-    let g = below_neg (m * suc c) a in
-    grind (arith, nat_tests)
+    grind (arith, ints, tests)
 
 pub floor_small : (m : ℕ) → 0 < m → (b : ℕ) (x : ℤ) → Small b x → Small b (int_div_euclid x (pos m))
 floor_small m h b (pos a) s = let d = div-le_self a m in (omega (arith, ints), omega (arith, ints))
@@ -103,61 +82,34 @@ pub computed : (f w low high s a b : ℤ) (exact : Bool) → f ≡ to_z w32 (of_
 computed f w low high s a b exact ef es ea eb h l g =
     let x : to_z w64 (of_z w64 f) ≡ w = omega (arith, ints, clamps) in
     let q : s ≡ pos (nat_abs w) = es ∙ ap (λ z. pos (nat_abs z)) x in
-    let n = some_size w h in
+    let k = h.2 in
+    let n : 0 < nat_abs w = omega (arith, ints) in
     let t : to_z w64 (of_z w64 s) ≡ s = rw q (omega (arith, ints, clamps)) in
     let y : to_z w64 (of_z w64 low) ≡ low = omega (arith, ints, clamps) in
     let z : to_z w64 (of_z w64 high) ≡ high = omega (arith, ints, clamps) in
-    let d : a ≡ int_div_euclid high s = ea ∙ ap₂ int_div_euclid z t in
-    record { size = q; above = d; below = eb ∙ ap (λ z. cond exact z (pos 1000000)) (ap₂ (λ l s. int_div_euclid (neg_ℤ l) s) y t); small = subst (Small 1000000000000) (sym (d ∙ ap (int_div_euclid high) q)) (floor_small (nat_abs w) n.0 1000000000000 high g) }
-  where
-    some_size : (w : ℤ) → Weighs w → (0 < nat_abs w) × (nat_abs w ≤ 10000)
-    some_size (pos zero) h = absurd (h.2 refl)
-    some_size (pos (suc m)) h = (omega arith, omega (arith, ints))
-    some_size (negsuc n) h = (omega arith, omega (arith, ints))
-
-pub flip : (x y : ℤ) → le_z x y ≡ le_z (neg_ℤ y) (neg_ℤ x)
-flip x y = bool_same _ _ (λ e. sym (omega (arith, ints))) (λ e. sym (omega (arith, ints)))
-
-pub back_twice : (x y : ℤ) → le_z (neg_ℤ x) y ≡ le_z (neg_ℤ y) x
-back_twice x y = bool_same _ _ (λ e. sym (omega (arith, ints))) (λ e. sym (omega (arith, ints)))
-
--- with B unlimited where the sum is not exact
-below_test : (exact : Bool) (d v : ℤ) → negsuc 999999 ≤ℤ v → le_z (neg_ℤ (cond exact d (pos 1000000))) v ≡ (not exact || le_z (neg_ℤ d) v)
-below_test true d v h = refl
-below_test false d v h = sym (omega (arith, ints))
-
-above_test : (exact : Bool) (d v : ℤ) → v ≤ℤ pos 1000000 → le_z v (cond exact d (pos 1000000)) ≡ (not exact || le_z v d)
-above_test true d v h = refl
-above_test false d v h = sym (omega (arith, ints))
-
-crossed : (x y p q : Bool) → x ≡ q → y ≡ p → (x && y) ≡ (p && q)
-crossed x y p q e f = grind arith
+    let d : a ≡ int_div_euclid high (pos (nat_abs w)) = cc in
+    record { size = q; above = cc; below = cc; small = rw d (floor_small (nat_abs w) n 1000000000000 high g) }
 
 pub quotients_up : (m : ℕ) → 0 < m → (exact : Bool) (low high v : ℤ) → negsuc 999999 ≤ℤ v → weighed (pos m) exact low high v ≡ between (neg_ℤ (cond exact (int_div_euclid (neg_ℤ low) (pos m)) (pos 1000000))) (int_div_euclid high (pos m)) v
-quotients_up m h exact low high v l =
+quotients_up m h true low high v l =
     let a = floor_is m h high v in
     let b = floor_is m h (neg_ℤ low) (neg_ℤ v) in
     let t = times_neg m v in
-    let f = flip low (pos m *ℤ v) in
-    let g = back_twice v (int_div_euclid (neg_ℤ low) (pos m)) in
-    let k = below_test exact (int_div_euclid (neg_ℤ low) (pos m)) v l in
-    let x : le_z low (pos m *ℤ v) ≡ le_z (neg_ℤ (int_div_euclid (neg_ℤ low) (pos m))) v = cc in
-    let y : (not exact || le_z low (pos m *ℤ v)) ≡ le_z (neg_ℤ (cond exact (int_div_euclid (neg_ℤ low) (pos m)) (pos 1000000))) v = ap (λ z. not exact || z) x ∙ sym k in
-    crossed _ _ _ _ (sym a) y
+    grind (arith, ints, tests)
+quotients_up m h false low high v l = let a = floor_is m h high v in grind (arith, ints, tests)
 
 pub quotients_down : (n : ℕ) (exact : Bool) (low high v : ℤ) → v ≤ℤ pos 1000000 → weighed (negsuc n) exact low high v ≡ between (neg_ℤ (int_div_euclid high (pos (suc n)))) (cond exact (int_div_euclid (neg_ℤ low) (pos (suc n))) (pos 1000000)) v
-quotients_down n exact low high v l =
+quotients_down n true low high v l =
     let a = floor_is (suc n) (omega arith) high (neg_ℤ v) in
     let b = floor_is (suc n) (omega arith) (neg_ℤ low) v in
     let s = times_neg (suc n) v in
     let t = neg_times n v in
-    let g = back_twice v (int_div_euclid high (pos (suc n))) in
-    let f = flip low (neg_ℤ (pos (suc n) *ℤ v)) in
-    let i = neg_ℤ-neg_ℤ (pos (suc n) *ℤ v) in
-    let k = above_test exact (int_div_euclid (neg_ℤ low) (pos (suc n))) v l in
-    let x : le_z (negsuc n *ℤ v) high ≡ le_z (neg_ℤ (int_div_euclid high (pos (suc n)))) v = cc in
-    let y : le_z low (negsuc n *ℤ v) ≡ le_z v (int_div_euclid (neg_ℤ low) (pos (suc n))) = cc in
-    ap₂ ◌&&◌ x (ap (λ z. not exact || z) y ∙ sym k)
+    grind (arith, ints, tests)
+quotients_down n false low high v l =
+    let a = floor_is (suc n) (omega arith) high (neg_ℤ v) in
+    let s = times_neg (suc n) v in
+    let t = neg_times n v in
+    grind (arith, ints, tests)
 
 -- the same at what the code computes
 pub quotients_pos : (w : ℤ) (exact : Bool) (low high size above below : ℤ) → pos 0 <ℤ w → size ≡ pos (nat_abs w) → above ≡ int_div_euclid high size → below ≡ cond exact (int_div_euclid (neg_ℤ low) size) (pos 1000000) → (v : ℤ) → negsuc 999999 ≤ℤ v → weighed w exact low high v ≡ between (pos 0 -ℤ below) above v
