@@ -1,17 +1,16 @@
 -- What the code of the product rule computes, as numbers.
-use Rattle.std.proofs.Common.{◌≡◌, suc, true, false, ◌&&◌, ◌||◌, ◌⊎◌, ℤ, pos, negsuc, ◌*ℤ◌, neg_ℤ, nat_abs, ◌≤ℤ◌, ◌<ℤ◌, sym, ap, ◌∙◌, ap₂, inl, inr, arith, w32, w64, to_z, of_z}
+use Rattle.std.proofs.Common.{◌≡◌, suc, true, false, ◌&&◌, ◌||◌, ◌⊎◌, ℤ, pos, negsuc, ◌*ℤ◌, neg_ℤ, nat_abs, ◌≤ℤ◌, ◌<ℤ◌, sym, refl, ap, ◌∙◌, ap₂, inl, inr, arith, w32, w64, to_z, of_z}
 use lib.IntN.{*ℤ_comm}
 use lib.Signed.{le_z, lt_z}
 use Rattle.std.specs.Int.{int_min, int_max, int_div_euclid}
 use Rattle.std.proofs.lemmas.Int.{ints, clamps}
-use Rattle.windows.specs.Sets.{In, range, between}
-use Rattle.windows.specs.SetLaws.{tests, never, lt_z_tells, min_z_tells, max_z_tells, is_between, range_some}
+use Rattle.windows.specs.Sets.{eq_z, In, range, between}
+use Rattle.windows.specs.SetLaws.{tests, lt_z_tells, is_between, range_some}
 use Rattle.windows.specs.SpanLaws.{in_range, range_in}
 use Rattle.sums.specs.Sizes.{Small}
 use Rattle.sums.proofs.Signed.{mul_between}
 use Rattle.sums.proofs.SumCode.{floor_is, times_neg, neg_times}
 use Rattle.products.specs.Products.{least_product, greatest_product, among_quotients, size, up_from_zero, down_from_zero, weakly_divides}
-use Rattle.products.proofs.WeakDivision.{Case, free, none, wide, right, left, the_case}
 use Rattle.products.proofs.ProductLaws.{least_product_bounds, least_product_reached, greatest_product_bounds, greatest_product_reached}
 
 -- ---- the corners
@@ -151,61 +150,46 @@ pub weak_at : (a b c d a' b' c' d' v : ℤ) → (a' ≡ a) × (b' ≡ b) → (c'
 weak_at a b c d a' b' c' d' v (p, q) (r, s) = cc
 
 -- ---- the cases of a weak division, as the code tells them apart
-not_both : (a b c d : ℤ) → between a b (pos 0) ≡ true → between c d (pos 0) ≡ true → (between a b (pos 0) && between c d (pos 0)) ≡ false → ⊥
-not_both a b c d p q n = let z : (between a b (pos 0) && between c d (pos 0)) ≡ true = grind arith in never (sym n ∙ z)
-
 pub weak_free : (a b c d v : ℤ) → true ≡ (between a b (pos 0) && between c d (pos 0)) → negsuc 999999 ≤ℤ v → v ≤ℤ pos 1000000 → weakly_divides a b c d v ≡ between (negsuc 999999) (pos 1000000) v
 unfolding weakly_divides
 weak_free a b c d v e l h = let f = sym e in rw f (sym (is_between (negsuc 999999) (pos 1000000) v l h))
 
-pub weak_wide : (a b c d v e : ℤ) → c ≤ℤ d → false ≡ (between a b (pos 0) && between c d (pos 0)) → true ≡ (lt_z c (pos 0) && lt_z (pos 0) d) → e ≡ size a b → weakly_divides a b c d v ≡ between (neg_ℤ e) e v
-weak_wide a b c d v e k n w q = go (the_case a b c d k)
-  where
-    go : Case a b c d → weakly_divides a b c d v ≡ between (neg_ℤ e) e v
-    go (free x y f) = absurd (not_both a b c d x y (sym n))
-    go (none m i j f) = absurd (grind (arith, ints, lt_z_tells))
-    go (wide m i j f) = f v ∙ ap (λ z. between (neg_ℤ z) z v) (sym q)
-    go (right m i j f) = absurd (grind (arith, ints, lt_z_tells))
-    go (left m i j f) = absurd (grind (arith, ints, lt_z_tells))
+module _ (a b c d v : ℤ) (k : c ≤ℤ d) (n : false ≡ (between a b (pos 0) && between c d (pos 0))) where
+  pub weak_wide : (e : ℤ) → true ≡ (lt_z c (pos 0) && lt_z (pos 0) d) → e ≡ size a b → weakly_divides a b c d v ≡ between (neg_ℤ e) e v
+  unfolding weakly_divides
+  weak_wide e w q =
+      let f = sym n in
+      let g : (eq_z c (pos 0) && eq_z d (pos 0)) ≡ false = grind (arith, ints, tests, lt_z_tells) in
+      let o = sym w in
+      rw (f, g, o) (ap (λ z. between (neg_ℤ z) z v) (sym q))
 
-pub weak_right : (a b c d v m : ℤ) → c ≤ℤ d → false ≡ (between a b (pos 0) && between c d (pos 0)) → false ≡ (lt_z c (pos 0) && lt_z (pos 0) d) → pos 0 <ℤ d → m ≡ int_max c (pos 1) → weakly_divides a b c d v ≡ among_quotients a b m d v
-weak_right a b c d v m k n w h q = go (the_case a b c d k)
-  where
-    go : Case a b c d → weakly_divides a b c d v ≡ among_quotients a b m d v
-    go (free x y f) = absurd (not_both a b c d x y (sym n))
-    go (none o i j f) = absurd (omega (arith, ints))
-    go (wide o i j f) = absurd (grind (arith, ints, lt_z_tells))
-    go (right o i j f) = f v ∙ ap (λ z. among_quotients a b z d v) (top c i ∙ sym q)
-      where
-        top : (c : ℤ) → pos 0 ≤ℤ c → up_from_zero c ≡ int_max c (pos 1)
-        top c h = let t = max_z_tells c (pos 1) in grind (arith, ints, tests)
-    go (left o i j f) = absurd (omega (arith, ints))
+  pub weak_right : (m : ℤ) → false ≡ (lt_z c (pos 0) && lt_z (pos 0) d) → pos 0 <ℤ d → m ≡ int_max c (pos 1) → weakly_divides a b c d v ≡ among_quotients a b m d v
+  unfolding weakly_divides
+  weak_right m w h q =
+      let f = sym n in
+      let g : (eq_z c (pos 0) && eq_z d (pos 0)) ≡ false = grind (arith, ints, tests) in
+      let o = sym w in
+      let x : up_from_zero c ≡ m = grind (arith, ints, clamps, tests, lt_z_tells) in
+      let y : down_from_zero d ≡ d = grind (arith, ints, tests) in
+      rw (f, g, o) (ap₂ (λ x y. among_quotients a b x y v) x y)
 
-pub weak_left : (a b c d v m : ℤ) → c ≤ℤ d → false ≡ (between a b (pos 0) && between c d (pos 0)) → c <ℤ pos 0 → d ≤ℤ pos 0 → m ≡ int_min d (negsuc 0) → weakly_divides a b c d v ≡ among_quotients a b c m v
-weak_left a b c d v m k n h l q = go (the_case a b c d k)
-  where
-    go : Case a b c d → weakly_divides a b c d v ≡ among_quotients a b c m v
-    go (free x y f) = absurd (not_both a b c d x y (sym n))
-    go (none o i j f) = absurd (omega (arith, ints))
-    go (wide o i j f) = absurd (omega (arith, ints))
-    go (right o i j f) = absurd (omega (arith, ints))
-    go (left o i j f) = f v ∙ ap (λ z. among_quotients a b c z v) (low d j ∙ sym q)
-      where
-        low : (d : ℤ) → d ≤ℤ pos 0 → down_from_zero d ≡ int_min d (negsuc 0)
-        low d h = let t = min_z_tells d (negsuc 0) in grind (arith, ints, tests)
+  pub weak_left : (m : ℤ) → c <ℤ pos 0 → d ≤ℤ pos 0 → m ≡ int_min d (negsuc 0) → weakly_divides a b c d v ≡ among_quotients a b c m v
+  unfolding weakly_divides
+  weak_left m h l q =
+      let f = sym n in
+      let g : (eq_z c (pos 0) && eq_z d (pos 0)) ≡ false = grind (arith, ints, tests) in
+      let o : (lt_z c (pos 0) && lt_z (pos 0) d) ≡ false = grind (arith, ints, lt_z_tells) in
+      let x : up_from_zero c ≡ c = grind (arith, ints, tests) in
+      let y : down_from_zero d ≡ m = grind (arith, ints, clamps, tests) in
+      rw (f, g, o) (ap₂ (λ x y. among_quotients a b x y v) x y)
 
-pub weak_none : (a b c d v : ℤ) → c ≤ℤ d → false ≡ (between a b (pos 0) && between c d (pos 0)) → pos 0 ≤ℤ c → d ≤ℤ pos 0 → weakly_divides a b c d v ≡ between (pos 1) (pos 0) v
-weak_none a b c d v k n h l = go (the_case a b c d k)
-  where
-    empty : (v : ℤ) → between (pos 1) (pos 0) v ≡ false
-    empty v = grind (arith, ints, tests)
-
-    go : Case a b c d → weakly_divides a b c d v ≡ between (pos 1) (pos 0) v
-    go (free x y f) = absurd (not_both a b c d x y (sym n))
-    go (none o i j f) = f v ∙ sym (empty v)
-    go (wide o i j f) = absurd (omega (arith, ints))
-    go (right o i j f) = absurd (omega (arith, ints))
-    go (left o i j f) = absurd (omega (arith, ints))
+  pub weak_none : pos 0 ≤ℤ c → d ≤ℤ pos 0 → weakly_divides a b c d v ≡ between (pos 1) (pos 0) v
+  unfolding weakly_divides
+  weak_none h l =
+      let f = sym n in
+      let g : (eq_z c (pos 0) && eq_z d (pos 0)) ≡ true = grind (arith, ints, tests) in
+      let e : between (pos 1) (pos 0) v ≡ false = grind (arith, ints, tests) in
+      rw (f, g, e) refl
 
 pub same_quotients : (a b c d a' b' c' d' v : ℤ) → a ≡ a' → b ≡ b' → c ≡ c' → d ≡ d' → among_quotients a b c d v ≡ among_quotients a' b' c' d' v
 same_quotients a b c d a' b' c' d' v p q r s = ap (λ z. among_quotients z b c d v) p ∙ ap (λ z. among_quotients a' z c d v) q ∙ ap (λ z. among_quotients a' b' z d v) r ∙ ap (λ z. among_quotients a' b' c' z v) s

@@ -15,7 +15,7 @@ returns-then-around_zero c v l h =
     let t = c.args.t.now.stands in
     let k = sizes c.from-dividend.result.from c.from-dividend.result.to _ _ c.max-e.result (omega (arith, ints), omega (arith, ints)) (omega (arith, ints), omega (arith, ints)) c.abs.ensures.value c.abs-then-around_zero.ensures.value c.max-e.ensures.value in
     let b = k.1 in
-    weak_at _ _ _ _ _ _ _ _ v e f ∙ weak_wide _ _ _ _ v c.max-e.result (omega (arith, ints)) c.if-zero_in_both.ensures c.if-around_zero.ensures k.0 ∙ ap₂ (λ x y. between x y v) (omega (arith, ints, clamps)) (omega (arith, ints, clamps))
+    weak_at _ _ _ _ _ _ _ _ v e f ∙ weak_wide _ _ _ _ v (omega (arith, ints)) c.if-zero_in_both.ensures c.max-e.result c.if-around_zero.ensures k.0 ∙ ap₂ (λ x y. between x y v) (omega (arith, ints, clamps)) (omega (arith, ints, clamps))
 
 pub returns-then-divisor-gt0 : goal.returns-then-divisor-gt0
 returns-then-divisor-gt0 c v l h =
@@ -27,7 +27,7 @@ returns-then-divisor-gt0 c v l h =
     let u = c.from-dividend.result in
     let t = c.from-divisor.result in
     let m = to_z w64 (of_z w64 c.max.result) in
-    weak_at _ _ _ _ _ _ _ _ v e f ∙ weak_right u.from u.to t.from t.to v m (omega (arith, ints)) c.if-zero_in_both.ensures c.if-around_zero.ensures (omega (arith, ints, clamps)) (omega (arith, ints, clamps)) ∙ same_quotients u.from u.to m t.to u.from u.to m (to_z w64 (of_z w64 t.to)) v refl refl refl (omega (arith, ints, clamps)) ∙ c.between_quotients.ensures v
+    weak_at _ _ _ _ _ _ _ _ v e f ∙ weak_right u.from u.to t.from t.to v (omega (arith, ints)) c.if-zero_in_both.ensures m c.if-around_zero.ensures (omega (arith, ints, clamps)) (omega (arith, ints, clamps)) ∙ same_quotients u.from u.to m t.to u.from u.to m (to_z w64 (of_z w64 t.to)) v refl refl refl (omega (arith, ints, clamps)) ∙ c.between_quotients.ensures v
 
 pub negated-requires-then-divisor-lt0 : goal.negated-requires-then-divisor-lt0
 negated-requires-then-divisor-lt0 c =
@@ -57,7 +57,7 @@ returns-then-divisor-lt0 c v l h =
     let u = c.from-dividend.result in
     let t = c.from-divisor.result in
     let m = to_z w64 (of_z w64 c.min.result) in
-    weak_at _ _ _ _ _ _ _ _ v e f ∙ weak_left u.from u.to t.from t.to v m (omega (arith, ints)) c.if-zero_in_both.ensures (omega (arith, ints, clamps)) (omega (arith, ints, clamps)) (omega (arith, ints, clamps)) ∙ among_left u.from u.to t.from m v (omega (arith, ints, clamps)) (omega (arith, ints, clamps)) (omega (arith, ints, clamps)) ∙ same_quotients _ _ _ (neg_ℤ t.from) _ _ _ c.negated-then-divisor-lt0.result.to v (sym n.0) (sym n.1) (sym o.0) (omega (arith, ints, clamps)) ∙ c.between_quotients-then-divisor-lt0.ensures v
+    weak_at _ _ _ _ _ _ _ _ v e f ∙ weak_left u.from u.to t.from t.to v (omega (arith, ints)) c.if-zero_in_both.ensures m (omega (arith, ints, clamps)) (omega (arith, ints, clamps)) (omega (arith, ints, clamps)) ∙ among_left u.from u.to t.from m v (omega (arith, ints, clamps)) (omega (arith, ints, clamps)) (omega (arith, ints, clamps)) ∙ same_quotients _ _ _ (neg_ℤ t.from) _ _ _ c.negated-then-divisor-lt0.result.to v (sym n.0) (sym n.1) (sym o.0) (omega (arith, ints, clamps)) ∙ c.between_quotients-then-divisor-lt0.ensures v
 
 pub returns : goal.returns
 returns c v l h =
