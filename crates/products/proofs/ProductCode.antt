@@ -150,9 +150,9 @@ pub weak_at : (a b c d a' b' c' d' v : ℤ) → (a' ≡ a) × (b' ≡ b) → (c'
 weak_at a b c d a' b' c' d' v (p, q) (r, s) = cc
 
 -- ---- the cases of a weak division, as the code tells them apart
-pub weak_free : (a b c d v : ℤ) → true ≡ (between a b (pos 0) && between c d (pos 0)) → negsuc 999999 ≤ℤ v → v ≤ℤ pos 1000000 → weakly_divides a b c d v ≡ between (negsuc 999999) (pos 1000000) v
+pub weak_free : (a b c d v l h : ℤ) → true ≡ (between a b (pos 0) && between c d (pos 0)) → l ≤ℤ v → v ≤ℤ h → weakly_divides a b c d v ≡ between l h v
 unfolding weakly_divides
-weak_free a b c d v e l h = let f = sym e in rw f (sym (is_between (negsuc 999999) (pos 1000000) v l h))
+weak_free a b c d v l h e p q = let f = sym e in rw f (sym (is_between l h v p q))
 
 module _ (a b c d v : ℤ) (k : c ≤ℤ d) (n : false ≡ (between a b (pos 0) && between c d (pos 0))) where
   pub weak_wide : (e : ℤ) → true ≡ (lt_z c (pos 0) && lt_z (pos 0) d) → e ≡ size a b → weakly_divides a b c d v ≡ between (neg_ℤ e) e v

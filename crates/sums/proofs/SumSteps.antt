@@ -20,7 +20,7 @@ use Rattle.rules.proofs.WritingLaws.{some_filled, full_window, same_window}
 use Rattle.sums.specs.Sums.{term_least, term_greatest, smallest, largest, smallest_but, largest_but, in_terms, weighed, sum_passes, sum_new, sum_rule, terms_reach}
 use Rattle.sums.specs.Questions.{windows_below, Apart, weights_fit}
 use Rattle.sums.specs.Sizes.{Weighs, Small}
-use Rattle.sums.specs.Steps.{WindowOf, all_read, Fit, entries}
+use Rattle.sums.specs.Steps.{WindowOf, all_read, entries}
 use Rattle.sums.specs.Meaning.{terms_of}
 use Rattle.sums.specs.declared.posted.Term.{Term}
 use Rattle.sums.specs.declared.sum.Sum.{Sum}
@@ -29,6 +29,13 @@ use Rattle.sums.proofs.QuestionLaws.{weighs_is}
 use Rattle.sums.proofs.Totals.{no_term, in_at, fresh, weight_is, but_rest}
 
 -- ---- the terms of a sum
+-- the terms of an accepted sum
+pub record Fit (ts : List Term) : Type 0 where
+  pub few : length ts ≤ 8
+  pub near : windows_below 64 ts ≡ true
+  pub different : Apart ts
+  pub weights : weights_fit ts ≡ true
+
 pub fit_is : (s : Sum) → Fit (terms_of s)
 fit_is s = let t = length-take s.terms.len s.terms.slots in let f = s.terms.few in record { few = omega arith; near = s.near; different = s.different; weights = s.weights }
 

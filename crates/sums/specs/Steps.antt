@@ -1,11 +1,10 @@
 -- What the steps of a narrowing by a sum answer.
-use Rattle.std.specs.Prelude.{◌≡◌, ℕ, ◌≤◌, Bool, true, false, ◌&&◌, List, [], ◌∷◌, map, length, ℤ, Some, None, Option, MatchOption}
+use Rattle.std.specs.Prelude.{◌≡◌, ℕ, Bool, true, false, ◌&&◌, List, [], ◌∷◌, map, ℤ, Some, None, Option, MatchOption}
 use Rattle.windows.specs.Sets.{range}
 use Rattle.windows.specs.declared.span.Span.{Span}
 use Rattle.rulebook.specs.Tables.{Table, window, filled}
 use Rattle.sums.specs.Sums.{smallest, largest}
 use Rattle.rules.specs.Pointwise.{Entry}
-use Rattle.sums.specs.Questions.{windows_below, Apart, weights_fit}
 use Rattle.sums.specs.Sizes.{Small}
 use Rattle.sums.specs.declared.posted.Term.{Term}
 use Rattle.sums.specs.declared.ends.Ends.{Ends}
@@ -23,13 +22,6 @@ all_read (t ∷ ts) T = filled (window T t.window) && all_read ts T
 abbrev pub ExtremesOf : List Term → Table → Option Ends → Type 0
 ExtremesOf ts T None = all_read ts T ≡ false
 ExtremesOf ts T (Some e) = (all_read ts T ≡ true) × (e.from ≡ smallest ts T) × (e.to ≡ largest ts T) × Small 80000000000 e.from × Small 80000000000 e.to
-
--- the terms of an accepted sum
-pub record Fit (ts : List Term) : Type 0 where
-  pub few : length ts ≤ 8
-  pub near : windows_below 64 ts ≡ true
-  pub different : Apart ts
-  pub weights : weights_fit ts ≡ true
 
 -- a new window for the window of each term
 abbrev pub entries : (ℕ → List ℤ) → List Term → List Entry

@@ -41,7 +41,7 @@ fn apart(terms: &[Term]) -> bool
 fn weighs(weight: i32) -> bool
     ensures { result ≡ weighs weight }
 {
-    weight != 0 && weight >= -10_000 && weight <= 10_000
+    (-10_000..=10_000).contains(&weight) && weight != 0
 }
 
 // Does every weight fit?
@@ -55,7 +55,7 @@ fn weights_fit(terms: &[Term]) -> bool
 fn bound_fits(bound: i32) -> bool
     ensures { result ≡ bound_fits bound }
 {
-    bound >= -1_000_000_000 && bound <= 1_000_000_000
+    (-1_000_000_000..=1_000_000_000).contains(&bound)
 }
 
 // The terms that were given, the first eight where there are more.

@@ -17,11 +17,6 @@ use rules::NewWindows;
 use sums::Ends;
 use windows::{Span, SpanRow};
 
-// No window has a number below the lowest or above the highest.
-const LOWEST: i64 = -1_000_000;
-
-const HIGHEST: i64 = 1_000_000;
-
 // The product of two numbers.
 fn times(x: i32, y: i32) -> i64
     ensures { result ≡ x *ℤ y }
@@ -94,7 +89,8 @@ fn around_zero(ends: Ends) -> bool
     ends.from < 0 && 0 < ends.to
 }
 
-// The weak division u : t, as far as a window may reach; 0 is taken off t where it is an end.
+// The weak division u : t, as far as a window may reach: all numbers where 0 is in both; else 0 is taken off t where it is
+// an end.
 fn weak_quotients(u: &Span, t: &Span) -> Ends
     ensures { (v : ℤ) → negsuc 999999 ≤ℤ v → v ≤ℤ pos 1000000 → weakly_divides u.now.lo u.now.hi t.now.lo t.now.hi v ≡ between result.from result.to v }
 {
@@ -102,8 +98,8 @@ fn weak_quotients(u: &Span, t: &Span) -> Ends
     let divisor = Ends::from(*t);
     if zero_in_both(dividend, divisor) {
         return Ends {
-            from: LOWEST,
-            to: HIGHEST,
+            from: i64::MIN,
+            to: i64::MAX,
         };
     }
     if around_zero(divisor) {

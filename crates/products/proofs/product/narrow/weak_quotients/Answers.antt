@@ -1,11 +1,11 @@
-use Rattle.std.proofs.Common.{neg_ℤ, sym, refl, ◌∙◌, ap₂, arith, w64, to_z, of_z}
+use Rattle.std.proofs.Common.{pos, negsuc, neg_ℤ, sym, refl, ◌∙◌, ap₂, arith, w64, to_z, of_z}
 use Rattle.std.proofs.lemmas.Int.{ints, clamps}
 use Rattle.windows.specs.Sets.{between}
 use Rattle.products.proofs.ProductCode.{weak_at, sizes, weak_free, weak_wide, weak_right, weak_left, weak_none, same_quotients, among_left}
 use Rattle.products.proofs.product.narrow.weak_quotients.Goals as goal
 
 pub returns-then-zero_in_both : goal.returns-then-zero_in_both
-returns-then-zero_in_both c v l h = weak_at _ _ _ _ _ _ _ _ v c.from-dividend.ensures c.from-divisor.ensures ∙ weak_free _ _ _ _ v c.if-zero_in_both.ensures l h
+returns-then-zero_in_both c v l h = weak_at _ _ _ _ _ _ _ _ v c.from-dividend.ensures c.from-divisor.ensures ∙ weak_free _ _ _ _ v (negsuc 9223372036854775807) (pos 9223372036854775807) c.if-zero_in_both.ensures (omega (arith, ints, l)) (omega (arith, ints, h))
 
 pub returns-then-around_zero : goal.returns-then-around_zero
 returns-then-around_zero c v l h =

@@ -2,10 +2,10 @@ use Rattle.std.proofs.Common.{◌+◌, ◌<◌, ◌≤◌, map, get_or, Some, dr
 use Rattle.std.proofs.lemmas.Int.{ints, clamps, to_z-of_z}
 use Rattle.windows.specs.Rows.{span_numbers}
 use Rattle.sums.specs.Sums.{term_least, term_greatest}
-use Rattle.sums.specs.Steps.{all_read, ExtremesOf, Fit}
+use Rattle.sums.specs.Steps.{all_read, ExtremesOf}
 use Rattle.sums.proofs.QuestionLaws.{stopped, passed, ended}
 use Rattle.sums.proofs.Totals.{no_term, total_more, total_end}
-use Rattle.sums.proofs.SumSteps.{fit_is, weight_fits, term_weighs, read_none, read_some, least_is, greatest_is, small_step, small_fits, small_end}
+use Rattle.sums.proofs.SumSteps.{Fit, fit_is, weight_fits, term_weighs, read_none, read_some, least_is, greatest_is, small_step, small_fits, small_end}
 use Rattle.sums.proofs.sum.Sum.extremes.Goals as goal
 
 pub returns-in_err-span : goal.returns-in_err-span

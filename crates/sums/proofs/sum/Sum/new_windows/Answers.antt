@@ -5,9 +5,9 @@ use Rattle.windows.specs.Sets.{range}
 use Rattle.windows.specs.Rows.{span_numbers}
 use Rattle.rules.specs.Made.{made}
 use Rattle.sums.specs.Sums.{is_exact, sum_new}
-use Rattle.sums.specs.Steps.{ExtremesOf, Fit, entries}
+use Rattle.sums.specs.Steps.{ExtremesOf, entries}
 use Rattle.sums.specs.declared.posted.Term.{Term}
-use Rattle.sums.proofs.SumSteps.{fit_is, weight_fits, term_weighs, read_at, row_new, numbers_window, entries_more}
+use Rattle.sums.proofs.SumSteps.{Fit, fit_is, weight_fits, term_weighs, read_at, row_new, numbers_window, entries_more}
 use Rattle.sums.proofs.sum.Sum.new_windows.Goals as goal
 use Rattle.sums.proofs.sum.Sum.new_windows.Goals.{in-Some, in_default}
 
