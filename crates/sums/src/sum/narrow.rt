@@ -18,19 +18,11 @@ use rulebook::{Emptied, WindowSet, window_at};
 use rules::NewWindows;
 use windows::{Span, SpanRow};
 
-// What a term can be at least, and at most.
-fn term_extremes(weight: i32, span: &Span) -> Ends
-    requires { Weighs weight }
-    ensures least { (result.from ≡ least_by (λ v. weight *ℤ v) (range span.now.lo span.now.hi)) × (Small 10000000000 result.from) }
-    ensures greatest { (result.to ≡ greatest_by (λ v. weight *ℤ v) (range span.now.lo span.now.hi)) × (Small 10000000000 result.to) }
-{
-    let ends = Ends::from(*span);
-    let low = i64::from(weight) * ends.from;
-    let high = i64::from(weight) * ends.to;
-    Ends {
-        from: low.min(high),
-        to: low.max(high),
-    }
+// The weight of a term that passed its question.
+#[derive(Clone, Copy)]
+struct Weight {
+    value: i32,
+    ghost fits: { Weighs value },
 }
 
 // What the other terms leave of the bound, at least and at most: `total` is the sum of all, `own` the term itself.
@@ -59,24 +51,40 @@ fn depth(relation: Relation, low: i64, size: i64) -> i64
     }
 }
 
-// The numbers v, of those that a span may hold, for which weight times v is at most the end of what is left and, if it is to
-// equal the bound, at least its start.
-fn quotients(weight: i32, relation: Relation, left: Ends) -> Ends
-    requires { (Weighs weight) × ((Small 1000000000000 left.from) × (Small 1000000000000 left.to)) }
-    ensures { (v : ℤ) → negsuc 999999 ≤ℤ v → v ≤ℤ pos 1000000 → weighed weight (is_exact relation) left.from left.to v ≡ between result.from result.to v }
-{
-    let size = i64::from(weight).abs();
-    let above = left.to.div_euclid(size);
-    let below = depth(relation, left.from, size);
-    if weight > 0 {
+impl Weight {
+    // What the weight times a number of the span can be at least, and at most.
+    fn extremes(self, span: &Span) -> Ends
+        ensures least { (result.from ≡ least_by (λ v. self.value *ℤ v) (range span.now.lo span.now.hi)) × (Small 10000000000 result.from) }
+        ensures greatest { (result.to ≡ greatest_by (λ v. self.value *ℤ v) (range span.now.lo span.now.hi)) × (Small 10000000000 result.to) }
+    {
+        let ends = Ends::from(*span);
+        let low = i64::from(self.value) * ends.from;
+        let high = i64::from(self.value) * ends.to;
         Ends {
-            from: -below,
-            to: above,
+            from: low.min(high),
+            to: low.max(high),
         }
-    } else {
-        Ends {
-            from: -above,
-            to: below,
+    }
+
+    // The numbers v, of those that a span may hold, for which the weight times v is at most the end of what is left and, if the
+    // sum is to equal its bound, at least its start.
+    fn quotients(self, relation: Relation, left: Ends) -> Ends
+        requires { (Small 1000000000000 left.from) × (Small 1000000000000 left.to) }
+        ensures { (v : ℤ) → negsuc 999999 ≤ℤ v → v ≤ℤ pos 1000000 → weighed self.value (is_exact relation) left.from left.to v ≡ between result.from result.to v }
+    {
+        let size = i64::from(self.value).abs();
+        let above = left.to.div_euclid(size);
+        let below = depth(relation, left.from, size);
+        if self.value > 0 {
+            Ends {
+                from: -below,
+                to: above,
+            }
+        } else {
+            Ends {
+                from: -above,
+                to: below,
+            }
         }
     }
 }
@@ -89,7 +97,8 @@ impl Sum {
         let mut sums = Ends { from: 0, to: 0 };
         for term in self.terms() {
             let span = window_at::<Span>(rows, term.window)?;
-            let own = term_extremes(term.weight, &span);
+            let weight = Weight { value: term.weight };
+            let own = weight.extremes(&span);
             sums.from += own.from;
             sums.to += own.to;
         }
@@ -97,13 +106,13 @@ impl Sum {
     }
 
     // The window of a term as the sum leaves it, none where it leaves no number.
-    fn new_window(&self, weight: i32, span: &Span, sums: Ends) -> Option<Span>
-        requires { (Weighs weight) × ((Small 80000000000 sums.from) × (Small 80000000000 sums.to)) }
-        ensures { WindowOf (filter (weighed weight (is_exact self.now.relation) (self.now.bound -ℤ (sums.to -ℤ greatest_by (λ v. weight *ℤ v) (range span.now.lo span.now.hi))) (self.now.bound -ℤ (sums.from -ℤ least_by (λ v. weight *ℤ v) (range span.now.lo span.now.hi)))) (range span.now.lo span.now.hi)) result }
+    fn new_window(&self, weight: Weight, span: &Span, sums: Ends) -> Option<Span>
+        requires { (Small 80000000000 sums.from) × (Small 80000000000 sums.to) }
+        ensures { WindowOf (filter (weighed weight.value (is_exact self.now.relation) (self.now.bound -ℤ (sums.to -ℤ greatest_by (λ v. weight.value *ℤ v) (range span.now.lo span.now.hi))) (self.now.bound -ℤ (sums.from -ℤ least_by (λ v. weight.value *ℤ v) (range span.now.lo span.now.hi)))) (range span.now.lo span.now.hi)) result }
     {
-        let own = term_extremes(weight, span);
+        let own = weight.extremes(span);
         let left = left_over(self.bound, sums, own);
-        let kept = quotients(weight, self.relation, left);
+        let kept = weight.quotients(self.relation, left);
         span.clipped(kept.from, kept.to)
     }
 
@@ -115,7 +124,8 @@ impl Sum {
         let mut new = NewWindows::<Span>::new();
         for term in self.terms() {
             if let Some(span) = window_at::<Span>(rows, term.window) {
-                new.push(term.window, self.new_window(term.weight, &span, sums));
+                let weight = Weight { value: term.weight };
+                new.push(term.window, self.new_window(weight, &span, sums));
             }
         }
         new

@@ -16,25 +16,25 @@ returns-in_err-span c =
     let f = stopped (λ l. all_read l T) ts i c.loop-term.invariant.read _ c.loop-term-test.true (read_none T (get_or ts i no_term) (drop (i + 1) ts) c.in_err-span.ensures) in
     subst (ExtremesOf _ T) (sym c.from_residual.ensures) (ap (λ l. all_read l T) (sym c.terms-term-items.ensures) ∙ sym f)
 
-pub term_extremes-own-requires : goal.term_extremes-own-requires
-term_extremes-own-requires c =
+pub invariant_of-weight : goal.invariant_of-weight
+invariant_of-weight c =
     let fit = subst Fit (sym c.terms-term-items.ensures) (fit_is c.args.self.now) in
     let w = term_weighs c.terms-term-items.result.now c.loop-term.term-index c.loop-term-test.true fit.weights in
     let f = weight_fits _ w in
-    simp to_z-of_z w
+    simp to_z-of_z (record { fits = w })
 
 pub overflow_add-sums : goal.overflow_add-sums
 overflow_add-sums c =
     let fit = subst Fit (sym c.terms-term-items.ensures) (fit_is c.args.self.now) in
     let s = c.loop-term.invariant.least_small in
-    let o = c.term_extremes-own.ensures.least.1 in
+    let o = c.extremes-own.ensures.least.1 in
     omega (arith, ints, clamps)
 
 pub overflow_add-sums-in-loop-term : goal.overflow_add-sums-in-loop-term
 overflow_add-sums-in-loop-term c =
     let fit = subst Fit (sym c.terms-term-items.ensures) (fit_is c.args.self.now) in
     let s = c.loop-term.invariant.greatest_small in
-    let o = c.term_extremes-own.ensures.greatest.1 in
+    let o = c.extremes-own.ensures.greatest.1 in
     omega (arith, ints, clamps)
 
 pub loop-term-preserved : goal.loop-term-preserved
@@ -50,17 +50,17 @@ loop-term-preserved c =
     let w = term_weighs ts i c.loop-term-test.true fit.weights in
     let fw = weight_fits _ w in
     let inv = c.loop-term.invariant in
-    let lb = c.term_extremes-own.ensures.least.1 in
-    let gb = c.term_extremes-own.ensures.greatest.1 in
-    let fl : SFits w64 c.term_extremes-own.result.from = search rules in
-    let fg : SFits w64 c.term_extremes-own.result.to = search rules in
-    let lv = least_is T t span.lo span.hi c.term_extremes-own.result.from r (simp to_z-of_z at c.term_extremes-own.ensures.least.0) in
-    let gv = greatest_is T t span.lo span.hi c.term_extremes-own.result.to r (simp to_z-of_z at c.term_extremes-own.ensures.greatest.0) in
-    let sl = small_fits i _ c.term_extremes-own.result.from h inv.least_small lb in
-    let sg = small_fits i _ c.term_extremes-own.result.to h inv.greatest_small gb in
+    let lb = c.extremes-own.ensures.least.1 in
+    let gb = c.extremes-own.ensures.greatest.1 in
+    let fl : SFits w64 c.extremes-own.result.from = search rules in
+    let fg : SFits w64 c.extremes-own.result.to = search rules in
+    let lv = least_is T t span.lo span.hi c.extremes-own.result.from r (simp to_z-of_z at c.extremes-own.ensures.least.0) in
+    let gv = greatest_is T t span.lo span.hi c.extremes-own.result.to r (simp to_z-of_z at c.extremes-own.ensures.greatest.0) in
+    let sl = small_fits i _ c.extremes-own.result.from h inv.least_small lb in
+    let sg = small_fits i _ c.extremes-own.result.to h inv.greatest_small gb in
     let al : SFits w64 c.loop-term.sums.from = omega (arith, ints, inv.least_small) in
     let ag : SFits w64 c.loop-term.sums.to = omega (arith, ints, inv.greatest_small) in
-    simp to_z-of_z (record { read = passed (λ l. all_read l T) ts i inv.read c.loop-term-test.true (read_some T t (drop (i + 1) ts) span.lo span.hi span.stands.0 r); least = total_more (term_least T) ts i _ c.term_extremes-own.result.from _ c.loop-term-test.true inv.least lv; greatest = total_more (term_greatest T) ts i _ c.term_extremes-own.result.to _ c.loop-term-test.true inv.greatest gv; least_small = small_step i _ c.term_extremes-own.result.from inv.least_small lb; greatest_small = small_step i _ c.term_extremes-own.result.to inv.greatest_small gb })
+    simp to_z-of_z (record { read = passed (λ l. all_read l T) ts i inv.read c.loop-term-test.true (read_some T t (drop (i + 1) ts) span.lo span.hi span.stands.0 r); least = total_more (term_least T) ts i _ c.extremes-own.result.from _ c.loop-term-test.true inv.least lv; greatest = total_more (term_greatest T) ts i _ c.extremes-own.result.to _ c.loop-term-test.true inv.greatest gv; least_small = small_step i _ c.extremes-own.result.from inv.least_small lb; greatest_small = small_step i _ c.extremes-own.result.to inv.greatest_small gb })
 
 pub returns : goal.returns
 returns c =

@@ -9,14 +9,13 @@ left_over-left-requires-clause-bound c = let b = bound_is c.args.self.now.bound 
 
 pub returns : goal.returns
 returns c =
-    let fw = c.ranges.weight in
     let b = bound_is c.args.self.now.bound c.args.self.now.bounded in
     let fb : SFits w32 c.args.self.now.bound = omega (arith, ints) in
     let f0 : SFits w64 c.quotients-kept.result.from = search rules in
     let f1 : SFits w64 c.quotients-kept.result.to = search rules in
-    let lv = simp to_z-of_z at c.term_extremes-own.ensures.least.0 in
-    let gv = simp to_z-of_z at c.term_extremes-own.ensures.greatest.0 in
+    let lv = c.extremes-own.ensures.least.0 in
+    let gv = c.extremes-own.ensures.greatest.0 in
     let lo = simp to_z-of_z at c.left_over-left.ensures.least.0 in
     let hi = simp to_z-of_z at c.left_over-left.ensures.greatest.0 in
-    let q = simp to_z-of_z at c.quotients-kept.ensures in
+    let q = c.quotients-kept.ensures in
     new_window_is _ _ _ _ _ _ _ _ _ _ _ _ _ c.clipped.result c.args.span.now.stands lv gv lo hi q (simp to_z-of_z at c.clipped.ensures)

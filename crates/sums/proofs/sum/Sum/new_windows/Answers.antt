@@ -11,13 +11,12 @@ use Rattle.sums.proofs.SumSteps.{Fit, fit_is, weight_fits, term_weighs, read_at,
 use Rattle.sums.proofs.sum.Sum.new_windows.Goals as goal
 use Rattle.sums.proofs.sum.Sum.new_windows.Goals.{in-Some, in_default}
 
-pub new_window-requires : goal.new_window-requires
-new_window-requires c =
+pub invariant_of-weight : goal.invariant_of-weight
+invariant_of-weight c =
     let fit = subst Fit (sym c.terms-term-items.ensures) (fit_is c.args.self.now) in
     let w = term_weighs c.terms-term-items.result.now c.loop-term.term-index c.loop-term-test.true fit.weights in
     let fw = weight_fits _ w in
-    let e = c.requires in
-    simp to_z-of_z (w, (e.3, e.4))
+    simp to_z-of_z (record { fits = w })
 
 pub loop-term-preserved : goal.loop-term-preserved
 loop-term-preserved c =
