@@ -7,6 +7,7 @@ use Rattle.std.specs.Option.{is_some, unwrap_or}
 use Rattle.std.proofs.lemmas.List.{take_all, drop_all}
 use Rattle.bounded.specs.Lists.{Pushed, pushed, Removed, removed}
 use Rattle.policies.specs.Waiting.{holds, distinct, put, remove, lowest, taking}
+use Rattle.policies.specs.PlaceLaws.{put_absent}
 use Rattle.policies.specs.DistinctLaws.{room_for_one}
 
 -- the order of the two numbers in a test
@@ -16,9 +17,6 @@ turned a b = ⊎_elim (λ e. e ∙ sym (eq-eqb b a (sym (eqb-true a b e)))) (λ 
 pub any_holds : (i : ℕ) (w : List ℕ) → list_any (λ x. x == i) w ≡ holds i w
 any_holds i [] = refl
 any_holds i (x ∷ w) = let t = turned x i in let e = any_holds i w in cc
-
-put_absent : (i : ℕ) (w : List ℕ) → i < 64 → holds i w ≡ false → put i w ≡ w ++ (i ∷ [])
-put_absent i w l h = cond-false (holds i w) w (cond (nat_lt i 64) (w ++ (i ∷ [])) w) h ∙ cond-true (nat_lt i 64) (w ++ (i ∷ [])) w (lt-ltb i 64 l)
 
 -- an absent number below 64 finds room
 pub put_pushed : (i : ℕ) (w u : List ℕ) (r : Option ℕ) → distinct w ≡ true → i < 64 → holds i w ≡ false → pushed 64 w i ≡ record { answer = r; after = u } → u ≡ put i w

@@ -2,3 +2,4 @@ pub mod Waiting
 pub mod Policies
 pub mod DistinctLaws
 pub mod WaitingLaws
+pub mod PlaceLaws
