@@ -31,6 +31,7 @@ pub enum Record<'a> {
 #[derive(Clone, Copy)]
 pub struct Placed<'a> {
     pub record: Record<'a>,
+    // a number, since a note may have any from 32,768 up
     pub kind: u16,
     pub at: usize,
     pub next: usize,

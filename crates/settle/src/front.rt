@@ -21,6 +21,7 @@ fn settle_board<B: RuleBook + Copy>(
     ensures store { board.new.store.now ≡ given_to result board.old.store.now board.old.rows.now }
     ensures lent { LendsOn board.old board.new }
 {
+    // a making answers its plan beside the refusal, so no `?`
     let (mut plan, refusal) = Plan::make(book, FirstCome::new(), board);
     if let Some(refused) = refusal {
         return Err(refused);

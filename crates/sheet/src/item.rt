@@ -11,7 +11,7 @@ use windows::SpanRow;
 
 #[derive(Clone, Copy)]
 pub enum Item {
-    // the byte that names the sheet's kind
+    // the byte that names the sheet's kind, a number until it is asked whether the record is in its place: this version knows one kind
     Kind(u8),
     // a window, before its check
     Window(SpanRow),
@@ -20,7 +20,8 @@ pub enum Item {
     Note,
 }
 
-// The terms of a sum: the first eight in their places, and how many there are.
+// The terms of a sum: the first eight in their places, and how many there are. All are counted, so that too many are refused
+// in the order of the questions.
 fn terms_of(payload: &[u8]) -> ([Term; MOST_TERMS], usize)
     ensures items { result.0 ≡ placed (replicate 8 (record { window = 0; weight = pos 0 })) 0 (terms payload.now) }
     ensures count { result.1 ≡ length (terms payload.now) }
