@@ -3,4 +3,4 @@ use Rattle.rulebook.proofs.SetBits.{is_empty}
 use Rattle.rulebook.proofs.set.WindowSet.is_empty.Goals as goal
 
 pub returns : goal.returns
-returns c = is_empty c.args.self.now 64 (omega arith) (omega arith)
+returns c = is_empty c.args.self.now (omega arith)
