@@ -132,7 +132,7 @@ all_but_mask a k h = mask_from _ (bit_and a (2 ^ 64 - 1 - 2 ^ k)) (rising_remove
     bits : (j : ℕ) → j < 64 → has (remove (pos k) (mask_numbers a)) (pos j) ≡ bit (bit_and a (2 ^ 64 - 1 - 2 ^ k)) j
     bits j l =
         let r = has_remove (pos k) (mask_numbers a) (pos j) ∙ ap₂ (λ x y. not x && y) (same k j) (has_bit a j l) in
-        let n = bit_not 64 (2 ^ k) j (pow_below k 64 h) l ∙ ap not (bit_pow k j) in
+        let n = bit_not (2 ^ k) j (pow_below k 64 h) l ∙ ap not (bit_pow k j) in
         swap _ (eqb k j) _ _ _ r (bit_of_and a (2 ^ 64 - 1 - 2 ^ k) j) n
 
 pub all_but_outside : (a : ℕ) (z : ℤ) → (z <ℤ pos 0) ⊎ (pos 64 ≤ℤ z) → all_but parts (mask_numbers a) z ≡ mask_numbers a
