@@ -1,11 +1,11 @@
 -- The set kind: what its windows are, and what its calls give.
-use Rattle.std.proofs.Common.{◌≡◌, ℕ, zero, suc, ◌+◌, ◌-◌, ◌*◌, ◌/◌, ◌%◌, ◌^◌, ◌<◌, ◌≤◌, Bool, true, false, cond, not, ◌&&◌, eqb, ◌⊎◌, List, [], ◌∷◌, length, ℤ, pos, negsuc, nat_abs, ◌≤ℤ◌, ◌<ℤ◌, Some, None, filter, sym, refl, ap, ◌∙◌, subst, ap₂, inl, inr, pow-suc, arith, pow_mono}
+use Rattle.std.proofs.Common.{◌≡◌, ℕ, zero, suc, ◌+◌, ◌-◌, ◌*◌, ◌/◌, ◌%◌, ◌^◌, ◌<◌, ◌≤◌, true, false, eqb, ◌⊎◌, List, [], ◌∷◌, length, ℤ, pos, negsuc, nat_abs, ◌≤ℤ◌, ◌<ℤ◌, Some, None, filter, sym, refl, ap, ◌∙◌, subst, inl, inr, pow-suc, arith, pow_mono}
 use lib.Bits.{bit_and}
 use lib.Count.{ones, ones_step, count_leading_zeros}
 use lib.Signed.{le_z, lt_z}
 use Rattle.std.proofs.lemmas.Int.{ints}
 use Rattle.std.proofs.lemmas.Nat.{shr-shr, pow_below, leading_top, one_shl}
-use Rattle.std.proofs.lemmas.Bool.{cases_order}
+use Rattle.std.proofs.lemmas.Bool.{cases_order, eqb-true, eq-eqb}
 use Rattle.std.proofs.lemmas.Bool.Decides.{nat_tests}
 use Rattle.windows.specs.Sets.{eq_z, has, In, Rising, up_from, count, range, between, meet, remove, sole_of, same_set}
 use Rattle.windows.specs.Kinds.{Of, Proper, all_but}
@@ -30,14 +30,11 @@ mask_in m v i = range_in (pos 0) (pos 63) v (within_kept (bit_set m) (range (pos
 
 pub has_bit : (m j : ℕ) → j < 64 → has (mask_numbers m) (pos j) ≡ bit m j
 unfolding mask_numbers
-has_bit m j h = has_kept (bit_set m) (range (pos 0) (pos 63)) (pos j) ∙ ap (λ t. bit m j && t) (has_range (pos 0) (pos 63) (pos j) ∙ inside) ∙ whole (bit m j)
-  where
-    inside : between (pos 0) (pos 63) (pos j) ≡ true
-    inside = grind (arith, ints, tests)
-
-    whole : (t : Bool) → (t && true) ≡ t
-    whole true = refl
-    whole false = refl
+has_bit m j h =
+    let k = has_kept (bit_set m) (range (pos 0) (pos 63)) (pos j) in
+    let r = has_range (pos 0) (pos 63) (pos j) in
+    let i : between (pos 0) (pos 63) (pos j) ≡ true = grind (arith, ints, tests) in
+    grind arith
 
 -- a set with the bits of a mask has its numbers
 pub mask_from : (s : List ℤ) (m : ℕ) → Rising s → ((v : ℤ) → In v s → (pos 0 ≤ℤ v) × (v ≤ℤ pos 63)) → ((j : ℕ) → j < 64 → has s (pos j) ≡ bit m j) → s ≡ mask_numbers m
@@ -78,20 +75,12 @@ row_is r h k = let e : set_stands r ≡ true = grind (arith, nat_tests) in rw e 
 -- a row of 64 bits: where no bit is set there are no numbers either way
 pub row_fits : (r : SetRow) → r.mask < 2 ^ 64 → set_numbers r ≡ mask_numbers r.mask
 unfolding set_numbers
-row_fits r k = go (set_stands r) refl
-  where
-    go : (t : Bool) → set_stands r ≡ t → cond t (mask_numbers r.mask) [] ≡ mask_numbers r.mask
-    go true e = refl
-    go false e = let z : r.mask ≡ 0 = grind (arith, nat_tests) in sym (ap mask_numbers z ∙ none_mask)
+row_fits r k = let z = none_mask in let m : r.mask ≡ 0 → mask_numbers r.mask ≡ mask_numbers 0 = ap mask_numbers in grind (arith, nat_tests)
 
 -- a row with numbers passes its check
 row_some : (r : SetRow) → (set_numbers r ≡ [] → ⊥) → (0 < r.mask) × (r.mask < 2 ^ 64)
 unfolding set_numbers
-row_some r n = go (set_stands r) refl n
-  where
-    go : (t : Bool) → set_stands r ≡ t → (cond t (mask_numbers r.mask) [] ≡ [] → ⊥) → (0 < r.mask) × (r.mask < 2 ^ 64)
-    go true e n = (grind (arith, nat_tests), grind (arith, nat_tests))
-    go false e n = absurd (n refl)
+row_some r n = grind (arith, nat_tests)
 
 pub row_of : (r : SetRow) → (set_numbers r ≡ [] → ⊥) → Of parts (set_numbers r)
 row_of r n = let s = row_some r n in subst (Of parts) (sym (row_is r s.0 s.1)) (parts_of r.mask s.0 s.1)
@@ -106,45 +95,39 @@ row_faithful a b n e =
 pub meet_mask : (a b : ℕ) → meet (mask_numbers a) (mask_numbers b) ≡ mask_numbers (bit_and a b)
 meet_mask a b = mask_from _ (bit_and a b) (rising_meet (mask_numbers a) (mask_numbers b) (rising_mask a)) (λ v i. mask_in a v (meet_in (mask_numbers a) (mask_numbers b) v i).0) bits
   where
-    swap : (s t c d : Bool) → s ≡ (c && d) → t ≡ (d && c) → s ≡ t
-    swap s t c d e f = grind arith
-
     bits : (j : ℕ) → j < 64 → has (meet (mask_numbers a) (mask_numbers b)) (pos j) ≡ bit (bit_and a b) j
     bits j h =
         let m = has_meet (mask_numbers a) (mask_numbers b) (pos j) in
         let x = has_bit a j h in
         let y = has_bit b j h in
         let z = bit_of_and a b j in
-        swap _ _ (bit b j) (bit a j) (m ∙ ap₂ (λ s t. s && t) y x) z
+        grind arith
 
 -- ---- all numbers but one
 all_but_mask : (a k : ℕ) → k < 64 → all_but parts (mask_numbers a) (pos k) ≡ mask_numbers (bit_and a (2 ^ 64 - 1 - 2 ^ k))
 unfolding all_but
 all_but_mask a k h = mask_from _ (bit_and a (2 ^ 64 - 1 - 2 ^ k)) (rising_remove (pos k) (mask_numbers a) (rising_mask a)) (λ v i. mask_in a v (remove_in (pos k) (mask_numbers a) v i).0) bits
   where
-    same : (i j : ℕ) → eq_z (pos j) (pos i) ≡ eqb i j
-    same i j = bool_same _ _ (λ e. let q : pos j ≡ pos i = grind (arith, tests) in let r : j ≡ i = omega (arith, ints) in grind (arith, nat_tests)) (λ e. let r : i ≡ j = grind (arith, nat_tests) in let q : pos j ≡ pos i = ap pos (sym r) in grind (arith, tests))
-
-    swap : (s t u c d : Bool) → s ≡ (not t && c) → u ≡ (c && d) → d ≡ not t → s ≡ u
-    swap s true u c d e f g = grind arith
-    swap s false u c d e f g = grind arith
-
     bits : (j : ℕ) → j < 64 → has (remove (pos k) (mask_numbers a)) (pos j) ≡ bit (bit_and a (2 ^ 64 - 1 - 2 ^ k)) j
     bits j l =
-        let r = has_remove (pos k) (mask_numbers a) (pos j) ∙ ap₂ (λ x y. not x && y) (same k j) (has_bit a j l) in
-        let n = bit_not (2 ^ k) j (pow_below k 64 h) l ∙ ap not (bit_pow k j) in
-        swap _ (eqb k j) _ _ _ r (bit_of_and a (2 ^ 64 - 1 - 2 ^ k) j) n
+        let r = has_remove (pos k) (mask_numbers a) (pos j) in
+        let x = has_bit a j l in
+        let e : eq_z (pos j) (pos k) ≡ eqb k j = grind (arith, ints, tests, nat_tests) in
+        let n = bit_not (2 ^ k) j (pow_below k 64 h) l in
+        let p = bit_pow k j in
+        let z = bit_of_and a (2 ^ 64 - 1 - 2 ^ k) j in
+        grind arith
 
 pub all_but_outside : (a : ℕ) (z : ℤ) → (z <ℤ pos 0) ⊎ (pos 64 ≤ℤ z) → all_but parts (mask_numbers a) z ≡ mask_numbers a
 unfolding all_but
 all_but_outside a z o = mask_from _ a (rising_remove z (mask_numbers a) (rising_mask a)) (λ v i. mask_in a v (remove_in z (mask_numbers a) v i).0) bits
   where
-    other : (j : ℕ) → j < 64 → (z <ℤ pos 0) ⊎ (pos 64 ≤ℤ z) → eq_z (pos j) z ≡ false
-    other j h (inl l) = grind (arith, ints, tests)
-    other j h (inr l) = grind (arith, ints, tests)
-
     bits : (j : ℕ) → j < 64 → has (remove z (mask_numbers a)) (pos j) ≡ bit a j
-    bits j h = has_remove z (mask_numbers a) (pos j) ∙ ap₂ (λ x y. not x && y) (other j h o) (has_bit a j h)
+    bits j h =
+        let r = has_remove z (mask_numbers a) (pos j) in
+        let x = has_bit a j h in
+        let e : eq_z (pos j) z ≡ false = grind (arith, ints, tests) in
+        grind arith
 
 pub cleared_mask : (m : ℕ) (u v : ℤ) → u ≡ v → le_z (pos 0) u ≡ true → lt_z u (pos 64) ≡ true → mask_numbers (bit_and m (2 ^ 64 - 1 - (1 * 2 ^ nat_abs u) % 2 ^ 64)) ≡ all_but parts (mask_numbers m) v
 cleared_mask m (pos k) v e l h =
@@ -160,10 +143,7 @@ one_mask k h = sym (mask_from (pos k ∷ []) (2 ^ k) tt here (λ j l. one j ∙ 
     here v i = let e : pos k ≡ v = grind (arith, tests) in (omega (arith, ints), omega (arith, ints))
 
     one : (j : ℕ) → has (pos k ∷ []) (pos j) ≡ eqb k j
-    one j = bool_same _ _ (λ e. let q : pos k ≡ pos j = grind (arith, tests) in let r : k ≡ j = omega (arith, ints) in grind (arith, nat_tests)) (λ e. let r : k ≡ j = grind (arith, nat_tests) in let q : pos k ≡ pos j = ap pos r in grind (arith, tests))
-
-powers : (i j : ℕ) → i ≤ j → 2 ^ i ≤ 2 ^ j
-powers i j h = pow_mono h
+    one j = grind (arith, ints, tests, nat_tests)
 
 -- more numbers than that of the highest bit
 sole_more : (m k : ℕ) → m < 2 ^ 64 → 2 ^ k ≤ m → m < 2 ^ suc k → (m ≡ 2 ^ k → ⊥) → sole_of (mask_numbers m) ≡ None
@@ -172,7 +152,7 @@ sole_more m k h l g n = go (mask_numbers m) refl
     same : (j : ℕ) → 2 ^ j ≡ m → (j ≡ k) ⊎ ((j < k) ⊎ (k < j)) → ⊥
     same j e (inl c) = n (sym e ∙ ap (λ i. 2 ^ i) c)
     same j e (inr (inl c)) = let p = pow_below j k c in omega arith
-    same j e (inr (inr c)) = let p = powers (suc k) j c in omega arith
+    same j e (inr (inr c)) = let p : 2 ^ suc k ≤ 2 ^ j = pow_mono c in omega arith
 
     other : (x : ℤ) → mask_numbers m ≡ x ∷ [] → ⊥
     other (negsuc j) e = let b = mask_in m (negsuc j) (ap (λ s. has s (negsuc j)) e ∙ in_here (negsuc j) []) in omega (arith, ints)
@@ -201,11 +181,7 @@ length_mask m a (suc n) h =
     let e : m / 2 ^ a / 2 ≡ m / 2 ^ (a + 1) = shr-shr m a 1 in
     let ih = length_mask m (a + 1) n (omega arith) in
     let s = ones_step (m / 2 ^ a) in
-    go (bit m a) refl (ih ∙ ap ones (sym e)) s
-  where
-    go : (t : Bool) → bit m a ≡ t → length (filter (bit_set m) (up_from (pos (a + 1)) n)) ≡ ones (m / 2 ^ a / 2) → ones (m / 2 ^ a) ≡ m / 2 ^ a % 2 + ones (m / 2 ^ a / 2) → length (cond t (pos a ∷ filter (bit_set m) (up_from (pos (a + 1)) n)) (filter (bit_set m) (up_from (pos (a + 1)) n))) ≡ ones (m / 2 ^ a)
-    go true e ih s = let o : m / 2 ^ a % 2 ≡ 1 = grind (arith, nat_tests) in omega arith
-    go false e ih s = let o : m / 2 ^ a % 2 ≡ 0 = grind (arith, nat_tests) in omega arith
+    grind (arith, nat_tests)
 
 pub size_mask : (m : ℕ) → m < 2 ^ 64 → length (mask_numbers m) ≡ ones m
 unfolding mask_numbers range count
@@ -216,10 +192,4 @@ size_mask m h = let z : m / 2 ^ 0 ≡ m = whole in length_mask m 0 64 (omega ari
 
 -- ---- alike
 pub alike_mask : (a b : ℕ) → a < 2 ^ 64 → b < 2 ^ 64 → eqb a b ≡ same_set (mask_numbers a) (mask_numbers b)
-alike_mask a b h k = bool_same _ _ there back
-  where
-    there : eqb a b ≡ true → same_set (mask_numbers a) (mask_numbers b) ≡ true
-    there e = let q : a ≡ b = grind (arith, nat_tests) in subst (λ x. same_set (mask_numbers a) (mask_numbers x) ≡ true) q (same_set_self (mask_numbers a))
-
-    back : same_set (mask_numbers a) (mask_numbers b) ≡ true → eqb a b ≡ true
-    back e = let q = mask_is a b h k (same_set_is (mask_numbers a) (mask_numbers b) e) in grind (arith, nat_tests)
+alike_mask a b h k = bool_same _ _ (λ e. subst (λ x. same_set (mask_numbers a) (mask_numbers x) ≡ true) (eqb-true a b e) (same_set_self (mask_numbers a))) (λ e. eq-eqb a b (mask_is a b h k (same_set_is (mask_numbers a) (mask_numbers b) e)))

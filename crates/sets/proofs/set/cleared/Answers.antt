@@ -1,4 +1,4 @@
-use Rattle.std.proofs.Common.{◌⊎◌, pos, ◌≤ℤ◌, ◌<ℤ◌, sym, inl, inr, arith, w32}
+use Rattle.std.proofs.Common.{sym, inl, inr, arith, w32}
 use Rattle.std.proofs.lemmas.Int.{ints, to_z-of_z}
 use Rattle.sets.specs.MaskLaws.{cleared_mask, all_but_outside}
 use Rattle.sets.proofs.set.cleared.Goals as goal
@@ -10,5 +10,4 @@ returns-then-v-lt64 c = cleared_mask c.args.mask _ c.args.v (to_z-of_z w32 c.arg
 pub returns-else-v-ge0 : goal.returns-else-v-ge0
 returns-else-v-ge0 c =
     let f = c.ranges.v in
-    let o : (c.args.v <ℤ pos 0) ⊎ (pos 64 ≤ℤ c.args.v) = elim c.else-v-ge0.branch [ else-v-ge0-via-then-v-ge0+else-v-lt64 w ↦ inr (omega (arith, ints)) | else-v-ge0-via-else-v-ge0 w ↦ inl (omega (arith, ints)) ] in
-    sym (all_but_outside c.args.mask c.args.v o)
+    sym (all_but_outside c.args.mask c.args.v (elim c.else-v-ge0.branch [ else-v-ge0-via-then-v-ge0+else-v-lt64 w ↦ inr (omega (arith, ints)) | else-v-ge0-via-else-v-ge0 w ↦ inl (omega (arith, ints)) ]))
