@@ -40,11 +40,7 @@ pub checked : (r : SpanRow) → Checked r (span_stands r)
 checked r = go (span_stands r) refl
   where
     go : (t : Bool) → span_stands r ≡ t → Checked r t
-    go true e =
-        let a : r.lo ≤ℤ r.hi = grind (arith, ints, tests) in
-        let b : negsuc 999999 ≤ℤ r.lo = grind (arith, ints, tests) in
-        let c : r.hi ≤ℤ pos 1000000 = grind (arith, ints, tests) in
-        ((a, b, c), row_is r a b c)
+    go true e = let s : Stands r.lo r.hi = grind (arith, ints, tests) in (s, row_is r s.0 s.1 s.2)
     go false e = row_none r e
 
 -- a row that passes its check stands for a span
@@ -88,30 +84,14 @@ all_but_range lo hi v l h o p q = within_both (hull (remove v (range lo hi))) (r
 
 -- the ends as `cond` has them
 pub all_but_ends : (lo hi v : ℤ) → lo ≤ℤ hi → all_but spans (range lo hi) v ≡ range (cond (eq_z v lo) (lo +ℤ pos 1) lo) (cond (eq_z v hi) (hi +ℤ negsuc 0) hi)
-all_but_ends lo hi v o = all_but_range lo hi v _ _ o (low (eq_z_tells v lo)) (high (eq_z_tells v hi))
-  where
-    low : ((eq_z v lo ≡ true) × (v ≡ lo)) ⊎ ((eq_z v lo ≡ false) × (v ≡ lo → ⊥)) → ((v ≡ lo) × (cond (eq_z v lo) (lo +ℤ pos 1) lo ≡ lo +ℤ pos 1)) ⊎ ((v ≡ lo → ⊥) × (cond (eq_z v lo) (lo +ℤ pos 1) lo ≡ lo))
-    low (inl (e, q)) = inl (q, rw e refl)
-    low (inr (e, q)) = inr (q, rw e refl)
-
-    high : ((eq_z v hi ≡ true) × (v ≡ hi)) ⊎ ((eq_z v hi ≡ false) × (v ≡ hi → ⊥)) → ((v ≡ hi) × (cond (eq_z v hi) (hi +ℤ negsuc 0) hi ≡ hi -ℤ pos 1)) ⊎ ((v ≡ hi → ⊥) × (cond (eq_z v hi) (hi +ℤ negsuc 0) hi ≡ hi))
-    high (inl (e, q)) = inl (q, rw e refl)
-    high (inr (e, q)) = inr (q, rw e refl)
+all_but_ends lo hi v o = all_but_range lo hi v _ _ o (grind (arith, tests)) (grind (arith, tests))
 
 -- they are in range
 pub moved_low : (lo hi v : ℤ) → Stands lo hi → (lo ≤ℤ cond (eq_z v lo) (lo +ℤ pos 1) lo) × (cond (eq_z v lo) (lo +ℤ pos 1) lo ≤ℤ pos 1000001)
-moved_low lo hi v s = go (eq_z v lo)
-  where
-    go : (t : Bool) → (lo ≤ℤ cond t (lo +ℤ pos 1) lo) × (cond t (lo +ℤ pos 1) lo ≤ℤ pos 1000001)
-    go true = (omega (arith, ints), omega (arith, ints))
-    go false = (omega (arith, ints), omega (arith, ints))
+moved_low lo hi v s = grind (arith, ints)
 
 pub moved_high : (lo hi v : ℤ) → Stands lo hi → (cond (eq_z v hi) (hi +ℤ negsuc 0) hi ≤ℤ hi) × (negsuc 1000000 ≤ℤ cond (eq_z v hi) (hi +ℤ negsuc 0) hi)
-moved_high lo hi v s = go (eq_z v hi)
-  where
-    go : (t : Bool) → (cond t (hi +ℤ negsuc 0) hi ≤ℤ hi) × (negsuc 1000000 ≤ℤ cond t (hi +ℤ negsuc 0) hi)
-    go true = (omega (arith, ints), omega (arith, ints))
-    go false = (omega (arith, ints), omega (arith, ints))
+moved_high lo hi v s = grind (arith, ints)
 
 pub sole_range_one : (lo hi : ℤ) → lo ≡ hi → sole_of (range lo hi) ≡ Some lo
 unfolding range
@@ -162,15 +142,10 @@ range_ends a b c d h k e = sym (same_range a b c d h k) ∙ subst (λ s. same_se
 pub row_faithful : (a b : SpanRow) → (span_numbers a ≡ [] → ⊥) → span_numbers a ≡ span_numbers b → a ≡ b
 row_faithful a b h q = go (span_stands a) (span_stands b) (checked a) (checked b)
   where
-    ends : a.lo ≡ b.lo → a.hi ≡ b.hi → a ≡ b
-    ends x y = ap₂ {C = SpanRow} (λ (l h : ℤ). record { lo = l; hi = h }) x y
-
     go : (t u : Bool) → Checked a t → Checked b u → a ≡ b
     go true true (s, i) (t, j) =
         let r = range_ends a.lo a.hi b.lo b.hi s.0 t.0 (sym i ∙ q ∙ j) in
-        let x : a.lo ≡ b.lo = grind (arith, tests) in
-        let y : a.hi ≡ b.hi = grind (arith, tests) in
-        ends x y
+        ap₂ {C = SpanRow} (λ (l h : ℤ). record { lo = l; hi = h }) (grind (arith, tests)) (grind (arith, tests))
     go true false s f = absurd (h (q ∙ f))
     go false u e f = absurd (h e)
 
@@ -182,7 +157,7 @@ pub bits_same : (a b : ℤ) → SFits w32 a → SFits w32 b → eqb (of_z w32 a)
 bits_same a b f g = bool_same _ _ there again
   where
     there : eqb (of_z w32 a) (of_z w32 b) ≡ true → eq_z a b ≡ true
-    there e = let q : of_z w32 a ≡ of_z w32 b = grind (arith, nat_tests) in let r : a ≡ b = sym (to_z-of_z w32 a f) ∙ ap (to_z w32) q ∙ to_z-of_z w32 b g in grind (arith, tests)
+    there e = grind (arith, ints, nat_tests, tests)
 
     again : eq_z a b ≡ true → eqb (of_z w32 a) (of_z w32 b) ≡ true
     again e = let r : a ≡ b = grind (arith, tests) in grind (arith, nat_tests)

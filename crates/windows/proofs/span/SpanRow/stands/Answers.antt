@@ -4,10 +4,9 @@ use Rattle.windows.specs.Rows.{Checked}
 use Rattle.windows.specs.SetLaws.{tests}
 use Rattle.windows.specs.SpanLaws.{checked}
 use Rattle.windows.proofs.span.SpanRow.stands.Goals as goal
-use Rattle.windows.proofs.span.SpanRow.stands.Goals.{then-self, else-self}
 
 pub returns-then-self-ge-LOWEST : goal.returns-then-self-ge-LOWEST
 returns-then-self-ge-LOWEST c = subst (Checked c.args.self.now) (grind (arith, ints, tests)) (checked c.args.self.now)
 
 pub returns-else-self-ge-LOWEST : goal.returns-else-self-ge-LOWEST
-returns-else-self-ge-LOWEST c = subst (Checked c.args.self.now) (elim c.if-self.branch [ then-self w ↦ grind (arith, ints, tests) | else-self w ↦ grind (arith, ints, tests) ]) (checked c.args.self.now)
+returns-else-self-ge-LOWEST c = subst (Checked c.args.self.now) (grind (arith, ints, tests)) (checked c.args.self.now)

@@ -1,4 +1,4 @@
-use Rattle.std.proofs.Common.{◌≡◌, [], sym, ap, ◌∙◌, subst, arith, w32, SFits, rules, MatchOption}
+use Rattle.std.proofs.Common.{◌≡◌, ap₂, sym, ◌∙◌, arith, w32, to_z, of_z}
 use Rattle.std.proofs.lemmas.Int.{ints, to_z-of_z}
 use Rattle.windows.specs.Sets.{range}
 use Rattle.windows.specs.Kinds.{spans, all_but}
@@ -12,13 +12,11 @@ from_ends-requires c =
     let fl = fits_lo _ _ s in
     let fh = fits_hi _ _ s in
     let fv = c.ranges.v in
-    let gl : SFits w32 c.moved.result = search rules in
-    let gh : SFits w32 c.moved-2.result = search rules in
     let l = simp to_z-of_z at c.moved.ensures in
     let h = simp to_z-of_z at c.moved-2.ensures in
     let x = moved_low _ _ c.args.v s in
     let y = moved_high _ _ c.args.v s in
-    simp to_z-of_z (omega (arith, ints), omega (arith, ints))
+    (omega (arith, ints), omega (arith, ints))
 
 pub returns : goal.returns
 returns c =
@@ -26,12 +24,10 @@ returns c =
     let fl = fits_lo _ _ s in
     let fh = fits_hi _ _ s in
     let fv = c.ranges.v in
-    let gl : SFits w32 c.moved.result = search rules in
-    let gh : SFits w32 c.moved-2.result = search rules in
     let l = simp to_z-of_z at c.moved.ensures in
     let h = simp to_z-of_z at c.moved-2.ensures in
-    let e = all_but_ends c.args.self.now.lo c.args.self.now.hi c.args.v s.0 in
-    let q : range c.moved.result c.moved-2.result ≡ all_but spans (range c.args.self.now.lo c.args.self.now.hi) c.args.v = ap (λ z. range z c.moved-2.result) l ∙ ap (range _) h ∙ sym e in
-    let o = span_of c.args.self.now.lo c.args.self.now.hi s.0 s.1 s.2 in
-    let t = subst (λ u. MatchOption c.from_ends.result (u ≡ []) (λ w. range w.lo w.hi ≡ u)) q (simp to_z-of_z at c.from_ends.ensures) in
-    record { equation = t; smallest = span_smallest c.from_ends.result _ c.args.v o t }
+    let x = moved_low _ _ c.args.v s in
+    let y = moved_high _ _ c.args.v s in
+    let q : range (to_z w32 (of_z w32 c.moved.result)) (to_z w32 (of_z w32 c.moved-2.result)) ≡ all_but spans (range c.args.self.now.lo c.args.self.now.hi) c.args.v = ap₂ range (omega (arith, ints)) (omega (arith, ints)) ∙ sym (all_but_ends c.args.self.now.lo c.args.self.now.hi c.args.v s.0) in
+    let t = rw q at c.from_ends.ensures in
+    record { equation = t; smallest = span_smallest c.from_ends.result _ c.args.v (span_of c.args.self.now.lo c.args.self.now.hi s.0 s.1 s.2) t }
