@@ -14,23 +14,15 @@ smaller (x ∷ s) [] rs rt h = never (h x (in_here x s))
 smaller (x ∷ s) (y ∷ t) rs rt h = go (smaller s t (above_rising x s rs) (above_rising y t rt)) (smaller (x ∷ s) t rs (above_rising y t rt)) (in_cons y t x (h x (in_here x s)))
   where
     tail : y ≡ x → Within s t
-    tail e v k = by (in_cons y t v (h v (in_there x s v k)))
-      where
-        by : (y ≡ v) ⊎ In v t → In v t
-        by (inl p) = let l = has_above x s v rs k in absurd (omega (arith, ints))
-        by (inr q) = q
+    tail e v k = let l = has_above x s v rs k in let i = in_cons y t v (h v (in_there x s v k)) in grind (arith, ints)
 
     -- x stands behind y in t, so y is no number of s
     behind : In x t → Within (x ∷ s) t
-    behind k v i = first (in_cons x s v i)
+    behind k v i = first (in_cons x s v i) (in_cons y t v (h v i))
       where
-        later : In v s → (y ≡ v) ⊎ In v t → In v t
-        later j (inl p) = let l = has_above x s v rs j in let m = has_above y t x rt k in absurd (omega (arith, ints))
-        later j (inr q) = q
-
-        first : (x ≡ v) ⊎ In v s → In v t
-        first (inl p) = subst (λ z. In z t) p k
-        first (inr j) = later j (in_cons y t v (h v i))
+        first : (x ≡ v) ⊎ In v s → (y ≡ v) ⊎ In v t → In v t
+        first (inl p) b = subst (λ z. In z t) p k
+        first (inr j) b = let l = has_above x s v rs j in let m = has_above y t x rt k in grind (arith, ints)
 
     more : (length s < length t) ⊎ (s ≡ t) → y ≡ x → (length (x ∷ s) < length (y ∷ t)) ⊎ (x ∷ s ≡ y ∷ t)
     more (inl l) e = inl (omega arith)

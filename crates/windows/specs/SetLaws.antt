@@ -1,33 +1,21 @@
 -- Lemmas on rising lists.
-use Rattle.std.proofs.Common.{◌≡◌, ℕ, zero, suc, ◌<◌, Bool, true, false, cond, not, ◌&&◌, T, ◌⊎◌, List, [], ◌∷◌, length, ℤ, pos, negsuc, ◌+ℤ◌, ◌-ℤ◌, ◌≤ℤ◌, ◌<ℤ◌, filter, sym, refl, ap, ◌∙◌, subst, inl, inr, arith}
+use Rattle.std.proofs.Common.{◌≡◌, ℕ, zero, suc, ◌<◌, Bool, true, false, not, ◌&&◌, T, ◌⊎◌, List, [], ◌∷◌, length, ℤ, pos, ◌+ℤ◌, ◌-ℤ◌, ◌≤ℤ◌, ◌<ℤ◌, filter, sym, refl, ap, ◌∙◌, subst, inl, inr, arith}
 use lib.Signed.{le_z, lt_z}
 use Rattle.std.specs.Int.{int_min, int_max}
 use Rattle.std.proofs.lemmas.Int.{ints, clamps}
+use Rattle.std.proofs.lemmas.Bool.Decides.{same_from_decides}
 use Rattle.windows.specs.Sets.{eq_z, has, In, Within, Above, Rising, up_from, count, range, between, least_on, least_by, greatest_on, greatest_by, least, greatest, hull, meet, remove}
 
 -- ---- tests
 pub le_z_tells : (a b : ℤ) → ((le_z a b ≡ true) × (a ≤ℤ b)) ⊎ ((le_z a b ≡ false) × (b <ℤ a))
-le_z_tells a b = go (le_z a b) refl
-  where
-    go : (t : Bool) → le_z a b ≡ t → ((le_z a b ≡ true) × (a ≤ℤ b)) ⊎ ((le_z a b ≡ false) × (b <ℤ a))
-    go true e = inl (e, omega (arith, ints))
-    go false e = inr (e, omega (arith, ints))
+le_z_tells a b = grind (arith, ints)
 
 pub eq_z_tells : (a b : ℤ) → ((eq_z a b ≡ true) × (a ≡ b)) ⊎ ((eq_z a b ≡ false) × (a ≡ b → ⊥))
 unfolding eq_z
-eq_z_tells a b = go (le_z a b) (le_z b a) refl refl
-  where
-    go : (t u : Bool) → le_z a b ≡ t → le_z b a ≡ u → ((eq_z a b ≡ true) × (a ≡ b)) ⊎ ((eq_z a b ≡ false) × (a ≡ b → ⊥))
-    go true true e f = inl (rw (e, f) refl, omega (arith, ints))
-    go true false e f = inr (rw (e, f) refl, λ q. omega (arith, ints))
-    go false u e f = inr (rw e refl, λ q. omega (arith, ints))
+eq_z_tells a b = grind (arith, ints)
 
 pub lt_z_tells : (a b : ℤ) → ((lt_z a b ≡ true) × (a <ℤ b)) ⊎ ((lt_z a b ≡ false) × (b ≤ℤ a))
-lt_z_tells a b = go (lt_z a b) refl
-  where
-    go : (t : Bool) → lt_z a b ≡ t → ((lt_z a b ≡ true) × (a <ℤ b)) ⊎ ((lt_z a b ≡ false) × (b ≤ℤ a))
-    go true e = inl (e, omega (arith, ints))
-    go false e = inr (e, omega (arith, ints))
+lt_z_tells a b = grind (arith, ints)
 
 pub ruleset tests = (le_z_tells, eq_z_tells)
 
@@ -42,11 +30,7 @@ is_between lo hi v h k = grind (arith, ints, tests)
 
 -- v is the first of the numbers, or one of the others
 pub in_cons : (x : ℤ) (s : List ℤ) (v : ℤ) → In v (x ∷ s) → (x ≡ v) ⊎ In v s
-in_cons x s v i = go (eq_z_tells x v)
-  where
-    go : ((eq_z x v ≡ true) × (x ≡ v)) ⊎ ((eq_z x v ≡ false) × (x ≡ v → ⊥)) → (x ≡ v) ⊎ In v s
-    go (inl e) = inl e.1
-    go (inr e) = inr (grind arith)
+in_cons x s v i = grind (arith, tests)
 
 pub in_here : (x : ℤ) (s : List ℤ) → In x (x ∷ s)
 in_here x s = grind (arith, tests)
@@ -97,12 +81,7 @@ has_up_from lo (suc n) v = let ih = has_up_from (lo +ℤ pos 1) n v in grind (ar
 
 pub count_is : (lo hi : ℤ) → ((lo ≤ℤ hi) × (pos (count lo hi) ≡ hi +ℤ pos 1 -ℤ lo)) ⊎ ((hi <ℤ lo) × (count lo hi ≡ 0))
 unfolding count
-count_is lo hi = go (hi +ℤ pos 1 -ℤ lo) refl
-  where
-    go : (z : ℤ) → hi +ℤ pos 1 -ℤ lo ≡ z → ((lo ≤ℤ hi) × (pos (count lo hi) ≡ hi +ℤ pos 1 -ℤ lo)) ⊎ ((hi <ℤ lo) × (count lo hi ≡ 0))
-    go (pos zero) e = inr (omega (arith, ints), rw e refl)
-    go (pos (suc n)) e = inl (omega (arith, ints), rw e refl)
-    go (negsuc n) e = inr (omega (arith, ints), rw e refl)
+count_is lo hi = grind (arith, ints)
 
 pub has_range : (lo hi v : ℤ) → has (range lo hi) v ≡ between lo hi v
 unfolding range
@@ -130,28 +109,16 @@ rising_range lo hi = rising_up_from lo (count lo hi)
 
 -- ---- filters
 pub has_kept : (p : ℤ → Bool) (s : List ℤ) (v : ℤ) → has (filter p s) v ≡ (p v && has s v)
-has_kept p [] v = go (p v)
-  where
-    go : (t : Bool) → false ≡ (t && false)
-    go true = refl
-    go false = refl
+has_kept p [] v = grind arith
 has_kept p (x ∷ s) v = let ih = has_kept p s v in grind (arith, tests)
 
 above_kept : (p : ℤ → Bool) (x : ℤ) (s : List ℤ) → Above x s → Above x (filter p s)
 above_kept p x [] a = tt
-above_kept p x (y ∷ s) a = go (p y) (above_kept p y s a.1) (above_kept p x s (above_lower x y s a.0 a.1))
-  where
-    go : (t : Bool) → Above y (filter p s) → Above x (filter p s) → Above x (cond t (y ∷ filter p s) (filter p s))
-    go true f g = (a.0, f)
-    go false f g = g
+above_kept p x (y ∷ s) a = let f = above_kept p y s a.1 in let g = above_kept p x s (above_lower x y s a.0 a.1) in grind arith
 
 pub rising_kept : (p : ℤ → Bool) (s : List ℤ) → Rising s → Rising (filter p s)
 rising_kept p [] a = tt
-rising_kept p (x ∷ s) a = go (p x) (above_kept p x s a)
-  where
-    go : (t : Bool) → Above x (filter p s) → Rising (cond t (x ∷ filter p s) (filter p s))
-    go true f = f
-    go false f = above_rising x (filter p s) f
+rising_kept p (x ∷ s) a = let f = above_kept p x s a in let g = above_rising x (filter p s) f in grind arith
 
 pub within_kept : (p : ℤ → Bool) (s : List ℤ) → Within (filter p s) s
 within_kept p s v i = let e = has_kept p s v in grind arith
@@ -172,18 +139,10 @@ kept_same p q (x ∷ s) h =
 
 -- ---- least and greatest
 pub min_z_tells : (a b : ℤ) → (int_min a b ≤ℤ a) × (int_min a b ≤ℤ b) × ((int_min a b ≡ a) ⊎ (int_min a b ≡ b))
-min_z_tells a b = (omega (arith, ints, clamps), omega (arith, ints, clamps), one (lt_z b a))
-  where
-    one : (t : Bool) → (cond t b a ≡ a) ⊎ (cond t b a ≡ b)
-    one true = inr refl
-    one false = inl refl
+min_z_tells a b = grind (arith, ints, clamps)
 
 pub max_z_tells : (a b : ℤ) → (a ≤ℤ int_max a b) × (b ≤ℤ int_max a b) × ((int_max a b ≡ a) ⊎ (int_max a b ≡ b))
-max_z_tells a b = (omega (arith, ints, clamps), omega (arith, ints, clamps), one (lt_z b a))
-  where
-    one : (t : Bool) → (cond t a b ≡ a) ⊎ (cond t a b ≡ b)
-    one true = inl refl
-    one false = inr refl
+max_z_tells a b = grind (arith, ints, clamps)
 
 -- least_by is a bound, and it is reached
 least_on_bounds : (f : ℤ → ℤ) (x : ℤ) (s : List ℤ) (v : ℤ) → In v (x ∷ s) → least_on f x s ≤ℤ f v
@@ -206,7 +165,7 @@ least_on_reached : (f : ℤ → ℤ) (x : ℤ) (s : List ℤ) → (v : ℤ) × I
 least_on_reached f x [] = (x, in_here x [], refl)
 least_on_reached f x (y ∷ s) = go (least_on_reached f y s) (min_z_tells (f x) (least_on f y s)).2
   where
-    go : ((v : ℤ) × In v (y ∷ s) × (least_on f y s ≡ f v)) → (int_min (f x) (least_on f y s) ≡ f x) ⊎ (int_min (f x) (least_on f y s) ≡ least_on f y s) → (v : ℤ) × In v (x ∷ (y ∷ s)) × (int_min (f x) (least_on f y s) ≡ f v)
+    go : ((v : ℤ) × In v (y ∷ s) × (least_on f y s ≡ f v)) → (least_on f x (y ∷ s) ≡ f x) ⊎ (least_on f x (y ∷ s) ≡ least_on f y s) → (v : ℤ) × In v (x ∷ (y ∷ s)) × (least_on f x (y ∷ s) ≡ f v)
     go r (inl e) = (x, in_here x (y ∷ s), e)
     go r (inr e) = (r.0, in_there x (y ∷ s) r.0 r.1, e ∙ r.2)
 
@@ -214,7 +173,7 @@ greatest_on_reached : (f : ℤ → ℤ) (x : ℤ) (s : List ℤ) → (v : ℤ) �
 greatest_on_reached f x [] = (x, in_here x [], refl)
 greatest_on_reached f x (y ∷ s) = go (greatest_on_reached f y s) (max_z_tells (f x) (greatest_on f y s)).2
   where
-    go : ((v : ℤ) × In v (y ∷ s) × (greatest_on f y s ≡ f v)) → (int_max (f x) (greatest_on f y s) ≡ f x) ⊎ (int_max (f x) (greatest_on f y s) ≡ greatest_on f y s) → (v : ℤ) × In v (x ∷ (y ∷ s)) × (int_max (f x) (greatest_on f y s) ≡ f v)
+    go : ((v : ℤ) × In v (y ∷ s) × (greatest_on f y s ≡ f v)) → (greatest_on f x (y ∷ s) ≡ f x) ⊎ (greatest_on f x (y ∷ s) ≡ greatest_on f y s) → (v : ℤ) × In v (x ∷ (y ∷ s)) × (greatest_on f x (y ∷ s) ≡ f v)
     go r (inl e) = (x, in_here x (y ∷ s), e)
     go r (inr e) = (r.0, in_there x (y ∷ s) r.0 r.1, e ∙ r.2)
 
@@ -250,10 +209,7 @@ pub greatest_within : (f : ℤ → ℤ) (s t : List ℤ) → Within s t → 0 < 
 greatest_within f s t w h = let r = greatest_reached f s h in let b = greatest_bounds f t r.0 (w r.0 r.1) in rw r.2 b
 
 pub bool_same : (b c : Bool) → (b ≡ true → c ≡ true) → (c ≡ true → b ≡ true) → b ≡ c
-bool_same true true f g = refl
-bool_same true false f g = sym (f refl)
-bool_same false true f g = g refl
-bool_same false false f g = refl
+bool_same b c f g = same_from_decides {P = c ≡ true} b c (f, g) ((λ e. e), (λ e. e))
 
 -- two rising lists, each within the other, are one list
 pub within_both : (s t : List ℤ) → Rising s → Rising t → Within s t → Within t s → s ≡ t
@@ -347,7 +303,7 @@ kept_range lo hi l h p e = rising_same _ _ (rising_kept p (range lo hi) (rising_
 
 pub range_none : (lo hi : ℤ) → hi <ℤ lo → range lo hi ≡ []
 unfolding range
-range_none lo hi h = let k = count_is lo hi in let e : count lo hi ≡ 0 = grind (arith, ints) in ap (up_from lo) e
+range_none lo hi h = let k = count_is lo hi in let e : count lo hi ≡ 0 = grind (arith, ints) in rw e refl
 
 pub range_some : (lo hi : ℤ) → lo ≤ℤ hi → 0 < length (range lo hi)
 range_some lo hi h = let k = count_is lo hi in let e = length_range lo hi in grind (arith, ints)

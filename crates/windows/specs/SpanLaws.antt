@@ -1,14 +1,14 @@
 -- The span kind: what its windows are, and what its calls give.
-use Rattle.std.proofs.Common.{◌≡◌, ℕ, zero, suc, ◌≤◌, Bool, true, false, cond, ◌&&◌, eqb, ◌⊎◌, List, [], ◌∷◌, length, ℤ, pos, negsuc, ◌+ℤ◌, ◌-ℤ◌, ◌≤ℤ◌, ◌<ℤ◌, Some, None, sym, refl, ap, ◌∙◌, subst, ap₂, inl, inr, arith, w32, SFits, to_z, of_z}
+use Rattle.std.proofs.Common.{◌≡◌, ℕ, zero, suc, ◌≤◌, Bool, true, false, cond, ◌&&◌, eqb, ◌⊎◌, List, [], ◌∷◌, length, ℤ, pos, negsuc, ◌+ℤ◌, ◌-ℤ◌, ◌≤ℤ◌, ◌<ℤ◌, Some, None, sym, refl, ◌∙◌, subst, ap₂, arith, w32, SFits, to_z, of_z}
 use Rattle.std.specs.Int.{int_min, int_max}
 use Rattle.std.specs.Ordering.{int_eq}
-use Rattle.std.proofs.lemmas.Int.{ints, to_z-of_z}
+use Rattle.std.proofs.lemmas.Int.{ints}
 use Rattle.std.proofs.lemmas.Bool.Decides.{nat_tests, Decides-int_eq, same_from_decides}
 use Rattle.windows.specs.Sets.{eq_z, has, In, Within, up_from, count, range, hull, meet, remove, sole_of, same_set}
 use Rattle.windows.specs.Kinds.{Of, Proper, all_but, spans}
 use Rattle.windows.specs.Rows.{Stands, Checked, span_stands, span_numbers}
 use Rattle.windows.specs.declared.span.SpanRow.{SpanRow}
-use Rattle.windows.specs.SetLaws.{tests, never, bool_same, eq_z_tells, between_is, is_between, has_range, rising_range, range_some, count_is, length_range, kept_range, Convex, hull_convex, convex_hull, within_hull, hull_mono, hull_again, rising_hull, hull_none, within_both, has_remove}
+use Rattle.windows.specs.SetLaws.{tests, never, bool_same, between_is, is_between, has_range, rising_range, range_some, count_is, length_range, kept_range, Convex, hull_convex, convex_hull, within_hull, hull_mono, hull_again, rising_hull, hull_none, within_both, has_remove}
 
 pub spans_proper : Proper spans
 spans_proper = record { holds = within_hull; mono = hull_mono; again = hull_again; rising = λ s r. rising_hull s; none = hull_none; from = omega (arith, ints); to = omega (arith, ints) }
