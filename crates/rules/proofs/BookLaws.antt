@@ -1,28 +1,24 @@
 -- Books as lists of rules in slots.
-use Rattle.std.proofs.Common.{◌≡◌, ℕ, zero, suc, ◌+◌, ◌<◌, ◌≤◌, Bool, true, false, cond, ◌||◌, List, length, get_or, take, None, Ok, Option, sym, refl, ap, ◌∙◌, subst, ap₂, add-one, arith}
+use Rattle.std.proofs.Common.{◌≡◌, ℕ, zero, suc, ◌+◌, ◌<◌, ◌≤◌, Bool, true, false, ◌||◌, List, length, get_or, take, None, Ok, Option, sym, refl, ap, ◌∙◌, subst, ap₂, add-one, arith}
 use Rattle.std.specs.List.{list_any}
-use Rattle.std.proofs.lemmas.List.{length-map, get_or_past, get_or-map, take_all}
+use Rattle.std.proofs.lemmas.List.{length-map, get_or-map, take_all}
 use Rattle.std.proofs.lemmas.List.Folds.{list_any_more}
-use Rattle.rulebook.specs.Tables.{Table, all_filled}
+use Rattle.rulebook.specs.Tables.{Table}
 use Rattle.rulebook.specs.Rules.{Rule, narrowed, missing}
 use Rattle.rulebook.specs.Answers.{outcome, member, Tells, any, reads_at, reach_of}
 use Rattle.rulebook.specs.declared.set.WindowSet.{WindowSet}
 use Rattle.rules.specs.Books.{slot_rule, slot_rules}
 use Rattle.rules.proofs.WritingLaws.{same_window}
 
-pub tells_missing : (T : Table) (s : WindowSet) → ((j : ℕ) → member s j ≡ false) → Tells T (outcome missing T) (Ok s) T
-tells_missing T s z = subst (λ o. Tells T o (Ok s) T) (sym (both (all_filled T))) (refl, λ j. z j ∙ sym (same_window T j))
+pub tells_missing : (r : Rule) (T : Table) (s : WindowSet) → missing ≡ r → ((j : ℕ) → member s j ≡ false) → Tells T (outcome r T) (Ok s) T
+tells_missing r T s e z = subst (λ o. Tells T o (Ok s) T) both (refl, λ j. z j ∙ sym (same_window T j))
   where
-    both : (b : Bool) → cond b (narrowed T) (narrowed T) ≡ narrowed T
-    both true = refl
-    both false = refl
+    both : narrowed T ≡ outcome r T
+    both = rw (← e) (grind arith)
 
 module _ {R : Type 0} (rule : R → Rule) (slots : List (Option R)) where
   pub rule_in : (i : ℕ) (x : Option R) → i < length slots → slot_rule rule (get_or slots i x) ≡ get_or (slot_rules rule slots) i missing
   rule_in i x h = sym (get_or-map (slot_rule rule) slots i x missing h)
-
-  pub rule_past : (i : ℕ) → length slots ≤ i → missing ≡ get_or (slot_rules rule slots) i missing
-  rule_past i h = sym (get_or_past (slot_rules rule slots) i missing (omega (arith, length-map slots (slot_rule rule))))
 
   -- the search over the slots is the one over the numbers
   some_below : (j n : ℕ) → n ≤ length slots → list_any (λ o. (slot_rule rule o).reads j) (take n slots) ≡ any (reads_at (slot_rules rule slots) j) n
@@ -33,8 +29,9 @@ module _ {R : Type 0} (rule : R → Rule) (slots : List (Option R)) where
   pub some_is : (j : ℕ) → list_any (λ o. (slot_rule rule o).reads j) slots ≡ any (reads_at (slot_rules rule slots) j) (length (slot_rules rule slots))
   some_is j = ap (list_any (λ o. (slot_rule rule o).reads j)) (sym (take_all (length slots) slots (omega arith))) ∙ some_below j (length slots) (omega arith) ∙ ap (any (reads_at (slot_rules rule slots) j)) (sym (length-map slots (slot_rule rule)))
 
-pub reach_more : (rules : List Rule) (j reach : ℕ) → reach ≡ reach_of rules j → any (reads_at rules j) (length rules) ≡ true → j + 1 ≡ reach_of rules (j + 1)
-reach_more rules j reach e a = add-one j ∙ sym (ap (reach_of rules) (add-one j) ∙ rw a refl)
+-- the reach after one more window
+pub reach_more : (rules : List Rule) (j reach : ℕ) (t : Bool) → t ≡ any (reads_at rules j) (length rules) → t ≡ true → reach ≡ j + 1 → reach ≡ reach_of rules (j + 1)
+reach_more rules j reach t a h e = e ∙ add-one j ∙ sym (ap (reach_of rules) (add-one j) ∙ rw (sym a ∙ h) refl)
 
-pub reach_kept : (rules : List Rule) (j reach : ℕ) → reach ≡ reach_of rules j → any (reads_at rules j) (length rules) ≡ false → reach ≡ reach_of rules (j + 1)
-reach_kept rules j reach e a = e ∙ sym (ap (reach_of rules) (add-one j) ∙ rw a refl)
+pub reach_kept : (rules : List Rule) (j old reach : ℕ) (t : Bool) → t ≡ any (reads_at rules j) (length rules) → t ≡ false → old ≡ reach_of rules j → reach ≡ old → reach ≡ reach_of rules (j + 1)
+reach_kept rules j old reach t a h o e = e ∙ o ∙ sym (ap (reach_of rules) (add-one j) ∙ rw (sym a ∙ h) refl)

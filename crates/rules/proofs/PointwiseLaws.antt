@@ -76,11 +76,7 @@ pub guard_no : (c : Pointwise) (T : Table) → length T < c.reach → (rule_of c
 guard_no c T h = let e : leb c.reach (length T) ≡ false = grind (arith, nat_tests) in rw e refl
 
 pub le_or_lt : (m n : ℕ) → (m ≤ n) ⊎ (n < m)
-le_or_lt m n = go (leb_tells m n)
-  where
-    go : ((leb m n ≡ true) × (m ≤ n)) ⊎ ((leb m n ≡ false) × (n < m)) → (m ≤ n) ⊎ (n < m)
-    go (inl h) = inl h.1
-    go (inr h) = inr h.1
+le_or_lt m n = grind (arith, leb_tells)
 
 pub inside_same : (T : Table) → Inside T T
 inside_same T = record { long = refl; each = λ j v i. i }
@@ -89,7 +85,7 @@ narrowed_same : (o : Outcome) (T U : Table) → o ≡ narrowed T → o ≡ narro
 narrowed_same o T U e f = cc
 
 not_both : {X : Type 0} (o : Outcome) (T : Table) (k : ℕ) → o ≡ narrowed T → o ≡ emptied k → X
-not_both o T k e f = let z : ◌≡◌ {A = ℕ} 0 1 = cc in absurd (omega arith)
+not_both o T k e f = absurd (let z : ◌≡◌ {A = ℕ} 0 1 = cc in omega arith)
 
 pub filled : (s : List ℤ) → 0 < length s → s ≡ [] → ⊥
 filled s n q = let r = ap length q in omega arith

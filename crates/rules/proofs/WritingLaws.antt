@@ -1,9 +1,10 @@
 -- New windows written one by one: which window is the lowest emptied, and which windows change.
 use Rattle.std.proofs.Common.{◌≡◌, ℕ, zero, suc, ◌+◌, ◌<◌, ◌≤◌, Bool, true, false, cond, not, ◌==◌, ◌&&◌, ◌||◌, eqb, ltb, ◌⊎◌, List, [], ◌∷◌, ◌++◌, map, length, get_or, drop, set, ℤ, is_some, Some, None, Ok, Err, Option, sym, refl, ap, ◌∙◌, subst, ap₂, inl, inr, arith, MatchOption}
 use Rattle.std.specs.List.{AllByRecursion as All, list_any}
-use Rattle.std.proofs.lemmas.List.{get_or_past, get_or-set_same, get_or-set_other, length-set, length-map, set_past, drop_more, drop_all, get_or-map, map-append, map-set, set-get_or, at_drop_more}
+use Rattle.std.proofs.lemmas.List.{get_or_past, get_or-set_same, get_or-set_other, length-set, length-map, set_past, drop_more, drop_all, get_or-map, map-append, map-set, set-get_or}
 use Rattle.std.proofs.lemmas.Bool.Decides.{nat_tests, eqb_tells}
 use Rattle.windows.specs.Sets.{same_set}
+use Rattle.windows.specs.SetLaws.{never}
 use Rattle.windows.specs.SpanLaws.{same_set_self, same_set_is}
 use Rattle.rulebook.specs.Tables.{Table, window, differs, filled, all_filled}
 use Rattle.rulebook.specs.Rules.{narrowed, emptied}
@@ -21,16 +22,10 @@ use Rattle.rules.proofs.PointwiseLaws.{replaced_length, replaced_made, guard_yes
 pub empty_set : (T : Table) (at : ℕ) (new : List ℤ) → (at < length T → filled (window T at) ≡ true) → empty_at (set T at new) ≡ cond (not (filled new) && ltb at (empty_at T)) at (empty_at T)
 empty_set [] at new h = grind (arith, nat_tests)
 empty_set ([] ∷ T) zero new h = never (h (omega arith))
-  where
-    never : {X : Type 0} → ◌≡◌ {A = Bool} false true → X
-    never e = let z : ◌≡◌ {A = ℕ} 0 1 = cc in absurd (omega arith)
 empty_set ([] ∷ T) (suc at) new h = grind (arith, nat_tests)
 empty_set ((v ∷ s) ∷ T) zero [] h = grind (arith, nat_tests)
 empty_set ((v ∷ s) ∷ T) zero (w ∷ t) h = refl
-empty_set ((v ∷ s) ∷ T) (suc at) new h = let ih = empty_set T at new (λ l. h (omega arith)) in step (filled new) ih
-  where
-    step : (b : Bool) → empty_at (set T at new) ≡ cond (not b && ltb at (empty_at T)) at (empty_at T) → suc (empty_at (set T at new)) ≡ cond (not b && ltb (suc at) (suc (empty_at T))) (suc at) (suc (empty_at T))
-    step b e = grind (arith, nat_tests)
+empty_set ((v ∷ s) ∷ T) (suc at) new h = let ih = empty_set T at new (λ l. h (omega arith)) in grind (arith, nat_tests)
 
 -- the windows that have an entry have numbers
 abbrev Full : Table → List Entry → Type 0
@@ -55,7 +50,7 @@ full_window (s ∷ T) a (suc j) h = full_window T (grind arith) j (omega arith)
 
 pub full_end : (T : Table) → all_filled T ≡ true → empty_at T ≡ length T
 full_end [] a = refl
-full_end ([] ∷ T) a = let z : ◌≡◌ {A = ℕ} 0 1 = cc in absurd (omega arith)
+full_end ([] ∷ T) a = never a
 full_end ((v ∷ s) ∷ T) a = ap suc (full_end T a)
 
 -- the outcome, from the lowest emptied window
@@ -83,19 +78,14 @@ lowest_below n [] = omega arith
 lowest_below n (e ∷ es) = go (lowest_below e.at es) (lowest_below n es)
   where
     go : lowest_emptied e.at es ≤ e.at → lowest_emptied n es ≤ n → lowest_emptied n (e ∷ es) ≤ n
-    go a b = by (not (filled e.new)) (ltb e.at n) refl
-      where
-        by : (x t : Bool) → ltb e.at n ≡ t → lowest_emptied (cond (x && t) e.at n) es ≤ n
-        by true true q = let h : e.at < n = grind (arith, nat_tests) in omega arith
-        by true false q = b
-        by false t q = b
+    go a b = grind (arith, nat_tests)
 
 -- where none is emptied, the next one is not, and none after it
 pub none_next : (n : ℕ) (e : Entry) (es : List Entry) → lowest_emptied n (e ∷ es) ≡ n → (e.new ≡ [] → n ≤ e.at) × (lowest_emptied n es ≡ n)
 none_next n e es h = by (filled e.new) (ltb e.at n) refl refl
   where
     by : (x t : Bool) → filled e.new ≡ x → ltb e.at n ≡ t → (e.new ≡ [] → n ≤ e.at) × (lowest_emptied n es ≡ n)
-    by true t p q = (λ z. let k = ap filled z in let y : ◌≡◌ {A = ℕ} 0 1 = cc in absurd (omega arith), rw p at h)
+    by true t p q = (λ z. never (sym (ap filled z) ∙ p), rw p at h)
     by false true p q = let k : lowest_emptied e.at es ≡ n = rw q at (rw p at h) in let l = lowest_below e.at es in let m : e.at < n = grind (arith, nat_tests) in absurd (omega arith)
     by false false p q = (λ z. grind (arith, nat_tests), rw q at (rw p at h))
 
@@ -169,7 +159,7 @@ module _ {Row : Type 0} (stands : Row → List ℤ) (rows0 rows rows' : List Row
           o j d (λ k. p (sym k)) ∙ w.kept j d z
 
       old : (j : ℕ) → has_entry rest j ≡ true → ((eqb e.at j ≡ true) × (e.at ≡ j)) ⊎ ((eqb e.at j ≡ false) × (e.at ≡ j → ⊥)) → window (map stands rows') j ≡ window (map stands rows0) j
-      old j h (inl (q, p)) = let k : has_entry rest e.at ≡ true = ap (has_entry rest) p ∙ h in let d = w.apart in let z : ◌≡◌ {A = Bool} false true = grind arith in absurd (let y : ◌≡◌ {A = ℕ} 0 1 = cc in omega arith)
+      old j h (inl (q, p)) = let k : has_entry rest e.at ≡ true = ap (has_entry rest) p ∙ h in let d = w.apart in never (grind arith)
       old j h (inr (q, p)) = there j p ∙ w.old j (rw q h)
 
   -- a window past the rows' end would be emptied: nothing is done
@@ -230,9 +220,6 @@ module _ {Row : Type 0} (stands : Row → List ℤ) (rows : List Row) (at : ℕ)
   pub window_row : window (map stands rows) at ≡ stands row
   window_row = get_or-map stands rows at row [] h ∙ ap stands (sym q)
 
-  pub fills_next : all_filled (map stands (drop at rows)) ≡ (filled (stands row) && all_filled (map stands (drop (at + 1) rows)))
-  fills_next = at_drop_more (λ l. all_filled (map stands l)) rows at row h ∙ ap (λ x. filled (stands x) && all_filled (map stands (drop (at + 1) rows))) (sym q)
-
   -- the same window stands there already
   pub put_same : (new : List ℤ) → same_set (stands row) new ≡ true → map stands rows ≡ set (map stands rows) at new
   put_same new e = sym (set-get_or (map stands rows) at []) ∙ ap (set (map stands rows) at) (window_row ∙ same_set_is (stands row) new e)
@@ -241,9 +228,6 @@ module _ {Row : Type 0} (stands : Row → List ℤ) (rows : List Row) (at : ℕ)
   put_differs row' new p e =
       let y : window (map stands (set rows at row')) at ≡ new = ap (λ V. window V at) (map-set stands rows at row') ∙ get_or-set_same (map stands rows) at (stands row') [] (omega (arith, length-map rows stands)) ∙ p in
       sym (ap₂ (λ s t. not (same_set s t)) window_row y ∙ ap not e)
-
-pub put_past : {Row : Type 0} (stands : Row → List ℤ) (rows : List Row) (at : ℕ) (new : List ℤ) → length rows ≤ at → map stands rows ≡ set (map stands rows) at new
-put_past stands rows at new h = sym (set_past (map stands rows) at new (omega (arith, length-map rows stands)))
 
 pub none_differs : (s : List ℤ) → 0 < length s → same_set [] s ≡ false
 none_differs [] h = absurd (omega arith)
@@ -271,11 +255,7 @@ pub lower_yes : (f r : Bool) (at low low' : ℕ) → f ≡ not r → r ≡ true 
 lower_yes f r at low low' e h l q = grind (arith, nat_tests)
 
 pub lower_past : (f r : Bool) (at low low' : ℕ) → low ≤ at → low' ≡ low → low' ≡ cond (not f && ltb at low) at low
-lower_past f r at low low' l q = let t : ltb at low ≡ false = grind (arith, nat_tests) in by f t
-  where
-    by : (f : Bool) → ltb at low ≡ false → low' ≡ cond (not f && ltb at low) at low
-    by true t = q
-    by false t = rw t q
+lower_past f r at low low' l q = grind (arith, nat_tests)
 
 pub lower_no : (f r : Bool) (at low low' : ℕ) → f ≡ not r → r ≡ false → low' ≡ low → low' ≡ cond (not f && ltb at low) at low
 lower_no f r at low low' e h q = let x : f ≡ true = grind arith in rw x q
@@ -300,19 +280,6 @@ module _ {W : Type 0} (numbers : W → List ℤ) (xs ys : List (NewWindow W)) (x
       go (inl p) = rw (p, last) (near_push (listed (λ _. []) xs) (entry (λ _. []) x) n l, distinct_push (listed (λ _. []) xs) (entry (λ _. []) x) d (sym (has_any numbers xs x.at) ∙ e))
       go (inr p) = rw p (n, d)
 
-  pub push_yes : x.at < 64 → has_entry (listed numbers xs) x.at ≡ false → listed numbers ys ≡ pushed (listed numbers xs) (entry numbers x)
-  push_yes l e = sym (ap (λ p. listed numbers p.after) q) ∙ go (ltb (length xs) 8) refl
-    where
-      go : (b : Bool) → ltb (length xs) 8 ≡ b → listed numbers (cond {A = Pushed (NewWindow W)} b (record { answer = Some (length xs); after = xs ++ (x ∷ []) }) (record { answer = None; after = xs })).after ≡ pushed (listed numbers xs) (entry numbers x)
-      go true t =
-          let n = length-map xs (entry numbers) in
-          let y : (ltb (length (listed numbers xs)) 8 && (ltb x.at 64 && not (has_entry (listed numbers xs) x.at))) ≡ true = grind (arith, nat_tests) in
-          map-append (entry numbers) xs (x ∷ []) ∙ rw y refl
-      go false t =
-          let n = length-map xs (entry numbers) in
-          let y : (ltb (length (listed numbers xs)) 8 && (ltb x.at 64 && not (has_entry (listed numbers xs) x.at))) ≡ false = grind (arith, nat_tests) in
-          rw y refl
-
 module _ {W : Type 0} (numbers : W → List ℤ) (xs : List (NewWindow W)) (x : NewWindow W) where
   push_not : (ltb (length (listed numbers xs)) 8 && (ltb x.at 64 && not (has_entry (listed numbers xs) x.at))) ≡ false → listed numbers xs ≡ pushed (listed numbers xs) (entry numbers x)
   push_not t = rw t refl
@@ -325,10 +292,6 @@ module _ {W : Type 0} (numbers : W → List ℤ) (xs : List (NewWindow W)) (x : 
   pub push_again : has_entry (listed numbers xs) x.at ≡ true → listed numbers xs ≡ pushed (listed numbers xs) (entry numbers x)
   push_again h = push_not (let b = ltb (length (listed numbers xs)) 8 in let c = ltb x.at 64 in grind arith)
 
-pub or_false : (b : Bool) → (b || false) ≡ b
-or_false true = refl
-or_false false = refl
-
 pub no_new : {W : Type 0} (numbers : W → List ℤ) (o : Option W) → ((w : W) → o ≡ Some w → ⊥) → numbers_of numbers o ≡ []
 no_new numbers None h = refl
 no_new numbers (Some w) h = absurd (h w refl)
@@ -336,11 +299,7 @@ no_new numbers (Some w) h = absurd (h w refl)
 -- ---- what a rule's code owes
 -- a window that has numbers is in the table
 pub window_inside : (T : Table) (j : ℕ) → (window T j ≡ [] → ⊥) → j < length T
-window_inside T j h = go (le_or_lt (length T) j)
-  where
-    go : (length T ≤ j) ⊎ (j < length T) → j < length T
-    go (inl l) = absurd (h (get_or_past T j [] l))
-    go (inr l) = l
+window_inside T j h = let g = get_or_past T j [] in grind arith
 
 -- new windows that hold what the rule makes, one for each window that it changes, give the rule's outcome
 pub written_made : (c : Pointwise) (T : Table) (es : List Entry) → c.reach ≤ length T → All (λ e. e.new ≡ c.new T e.at) es → ((j : ℕ) → j < length T → has_entry es j ≡ false → window T j ≡ c.new T j) → written T es ≡ outcome (rule_of c) T
@@ -353,7 +312,7 @@ outcome_none c T j z h = go (all_filled T) refl (le_or_lt (length T) j)
     go : (b : Bool) → all_filled T ≡ b → (length T ≤ j) ⊎ (j < length T) → outcome (rule_of c) T ≡ narrowed T
     go false e l = rw e refl
     go true e (inl l) = ap (λ b. cond b ((rule_of c).narrow T) (narrowed T)) e ∙ guard_no c T (omega arith)
-    go true e (inr l) = let f = full_window T e j l in let g = ap filled z in let y : ◌≡◌ {A = ℕ} 0 1 = cc in absurd (omega arith)
+    go true e (inr l) = never (sym (ap filled z) ∙ full_window T e j l)
 
 -- no new windows
 pub written_none_is : (T : Table) → written T [] ≡ narrowed T

@@ -1,12 +1,9 @@
 use Rattle.std.proofs.Common.{◌≡◌, ℕ, true, false, map, set, sym, refl, ap, ◌∙◌, arith}
 use Rattle.std.proofs.lemmas.List.{map-set, get_or-set_other}
 use Rattle.windows.specs.Sets.{same_set}
-use Rattle.rules.proofs.WritingLaws.{same_window, put_past, put_same, put_differs, none_differs}
+use Rattle.rules.proofs.WritingLaws.{same_window, put_same, put_differs, none_differs}
 use Rattle.rules.proofs.new_windows.put.Goals as goal
 use Rattle.rules.proofs.new_windows.put.Goals.{in-Some+else-alike, in_default}
-
-pub returns-then-at-rows : goal.returns-then-at-rows
-returns-then-at-rows g c = record { table = put_past g.W.Window.stands c.args.rows.now c.args.at _ c.if-at-rows.true; differs = sym (same_window (map g.W.Window.stands c.args.rows.now) c.args.at); same = λ _. refl; others = λ j d h. refl }
 
 pub returns-then-alike : goal.returns-then-alike
 returns-then-alike g c =

@@ -1,4 +1,4 @@
-use Rattle.std.proofs.Common.{◌≡◌, sym, ap, ◌∙◌, arith}
+use Rattle.std.proofs.Common.{◌≡◌, ap, ◌∙◌, arith}
 use Rattle.rulebook.specs.Answers.{reach_of}
 use Rattle.rules.specs.Books.{book_rules}
 use Rattle.rules.proofs.BookLaws.{reach_more, reach_kept}
@@ -8,7 +8,7 @@ use Rattle.rules.proofs.book.BookRuleBook.reach.Goals.{then-some_reads, else-som
 pub loop-j-preserved : goal.loop-j-preserved
 loop-j-preserved g c =
     let rules = book_rules g.R.BookRule.rule c.args.self.now in
-    elim c.if-some_reads.branch [ then-some_reads w ↦ w.reach-is ∙ reach_more rules c.loop-j.j c.loop-j.reach c.loop-j.invariant (sym c.some_reads.ensures ∙ w.if-some_reads.true) | else-some_reads w ↦ w.reach-is ∙ reach_kept rules c.loop-j.j c.loop-j.reach c.loop-j.invariant (sym c.some_reads.ensures ∙ w.if-some_reads.false) ]
+    elim c.if-some_reads.branch [ then-some_reads w ↦ reach_more rules c.loop-j.j c.if-some_reads.reach c.some_reads.result c.some_reads.ensures w.if-some_reads.true w.reach-is | else-some_reads w ↦ reach_kept rules c.loop-j.j c.loop-j.reach c.if-some_reads.reach c.some_reads.result c.some_reads.ensures w.if-some_reads.false c.loop-j.invariant w.reach-is ]
 
 pub returns : goal.returns
 returns g c =

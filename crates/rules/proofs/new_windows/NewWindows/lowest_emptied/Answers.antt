@@ -13,11 +13,6 @@ loop-entry-preserved g c =
     let low : c.if-is_none.lowest ≡ cond (not (filled (numbers_of g.W.Window.numbers item.new)) && ltb item.at c.loop-entry.lowest) item.at c.loop-entry.lowest = elim c.if-is_none.branch [ then-is_none+then-entry-lowest w ↦ lower_yes _ _ _ _ _ f w.if-is_none.true w.if-entry-lowest.true w.lowest-is | else-is_none w ↦ elim w.else-is_none.branch [ else-is_none-via-then-is_none+else-entry-lowest w' ↦ lower_past _ c.is_none.result _ _ _ w'.if-entry-lowest.false w.lowest-is | else-is_none-via-else-is_none w' ↦ lower_no _ _ _ _ _ f w'.if-is_none.false w.lowest-is ] ] in
     lowest_more _ _ _ _ _ _ (listed_next g.W.Window.numbers c.as_slice-entry-items.result.now c.loop-entry.entry-index item c.loop-entry-test.true c.entry-item.is) low c.loop-entry.invariant
 
-pub returns-then-lowest-n : goal.returns-then-lowest-n
-returns-then-lowest-n g c =
-    let e : c.loop-entry.lowest ≡ lowest_emptied c.args.n (made g.W.Window.numbers c.args.self.now) = sym (ap (lowest_emptied c.loop-entry.lowest) (listed_none g.W.Window.numbers c.as_slice-entry-items.result.now c.loop-entry.entry-index c.loop-entry-test.false)) ∙ c.loop-entry.invariant ∙ ap (λ xs. lowest_emptied c.args.n (listed g.W.Window.numbers xs)) c.as_slice-entry-items.ensures in
-    (c.if-lowest-n.true, sym e)
-
 pub returns-else-lowest-n : goal.returns-else-lowest-n
 returns-else-lowest-n g c =
     let e : c.loop-entry.lowest ≡ lowest_emptied c.args.n (made g.W.Window.numbers c.args.self.now) = sym (ap (lowest_emptied c.loop-entry.lowest) (listed_none g.W.Window.numbers c.as_slice-entry-items.result.now c.loop-entry.entry-index c.loop-entry-test.false)) ∙ c.loop-entry.invariant ∙ ap (λ xs. lowest_emptied c.args.n (listed g.W.Window.numbers xs)) c.as_slice-entry-items.ensures in

@@ -1,7 +1,7 @@
 use Rattle.std.proofs.Common.{sym}
 use Rattle.bounded.specs.Lists.{items}
 use Rattle.rules.specs.declared.new_windows.NewWindow.{NewWindow}
-use Rattle.rules.proofs.WritingLaws.{push_kept, push_yes, push_past, push_again}
+use Rattle.rules.proofs.WritingLaws.{push_kept, push_past, push_again}
 use Rattle.rules.proofs.new_windows.NewWindows.push.Goals as goal
 use Rattle.rules.proofs.new_windows.NewWindows.push.Goals.{else-at-lt64-via-then-at-lt64+else-not-has, else-at-lt64-via-else-at-lt64}
 
@@ -9,9 +9,6 @@ pub invariant_of-self : goal.invariant_of-self
 invariant_of-self g c =
     let k = push_kept g.W.Window.numbers (items c.args.self.now.list) _ (record { at = c.args.at; new = c.args.new }) _ c.push.ensures c.args.self.now.close c.args.self.now.apart c.if-at-lt64.true (sym c.if-not-has.ensures) in
     record { close = k.0; apart = k.1 }
-
-pub returns-then-not-has : goal.returns-then-not-has
-returns-then-not-has g c = push_yes g.W.Window.numbers (items c.args.self.now.list) _ (record { at = c.args.at; new = c.args.new }) _ c.push.ensures c.if-at-lt64.true (sym c.if-not-has.ensures)
 
 pub returns-else-at-lt64 : goal.returns-else-at-lt64
 returns-else-at-lt64 g c =

@@ -1,10 +1,10 @@
-use Rattle.std.proofs.Common.{ℕ, ◌+◌, Bool, ◌&&◌, ◌||◌, eqb, ltb, List, [], map, drop, set, sym, ap, ◌∙◌, subst}
+use Rattle.std.proofs.Common.{ℕ, ◌+◌, Bool, ◌&&◌, ◌||◌, eqb, ltb, List, map, drop, set, sym, ap, ◌∙◌, subst}
+use Rattle.std.proofs.Math.Bool.{or-false}
 use Rattle.rulebook.specs.Answers.{member}
 use Rattle.rules.specs.Writing.{numbers_of, entry, listed}
 use Rattle.rules.specs.Made.{made}
-use Rattle.rules.specs.Pointwise.{replaced}
 use Rattle.bounded.specs.Lists.{items}
-use Rattle.rules.proofs.WritingLaws.{Written, written_none, written_more, written_skip, listed_next, listed_none, near_any, distinct_any, or_false, no_new}
+use Rattle.rules.proofs.WritingLaws.{Written, written_none, written_more, written_skip, listed_next, near_any, distinct_any, no_new}
 use Rattle.rules.proofs.new_windows.NewWindows.put_all.Goals as goal
 use Rattle.rules.proofs.new_windows.NewWindows.put_all.Goals.{in-Some+then-put, in-Some+else-put, in_default}
 
@@ -24,10 +24,4 @@ loop-entry-preserved g c =
     let after = λ (rows' : List g.row.W-Row.Denot). Written stands c.args.rows.now rows' (member c.match-entry.changed) es rest in
     let more = λ (rows' : List g.row.W-Row.Denot). written_more stands c.args.rows.now c.loop-entry.rows rows' (member c.loop-entry.changed) (member c.match-entry.changed) es rest (entry numbers item) inv in
     let part = λ (j : ℕ) (t : Bool). member c.loop-entry.changed j || (t && (ltb item.at 64 && eqb item.at j)) in
-    elim c.match-entry.branch [ in-Some+then-put w ↦ subst after (sym w.rows-is) (more w.put.new.rows w.put.result (w.put.ensures.table ∙ ap (λ o. set (map stands c.loop-entry.rows) item.at (numbers_of numbers o)) (sym w.in-Some.is)) w.put.ensures.differs w.put.ensures.same w.put.ensures.others (λ j. ap (λ s. member s j) w.changed-is ∙ w.add.ensures j ∙ ap (part j) (sym w.if-put.true))) | in-Some+else-put w ↦ subst after (sym w.rows-is) (more w.put.new.rows w.put.result (w.put.ensures.table ∙ ap (λ o. set (map stands c.loop-entry.rows) item.at (numbers_of numbers o)) (sym w.in-Some.is)) w.put.ensures.differs w.put.ensures.same w.put.ensures.others (λ j. ap (λ s. member s j) w.changed-is ∙ sym (or_false (member c.loop-entry.changed j)) ∙ ap (part j) (sym w.if-put.false))) | in_default w ↦ written_skip stands c.args.rows.now c.loop-entry.rows c.match-entry.rows (member c.loop-entry.changed) (member c.match-entry.changed) es rest (entry numbers item) inv (no_new numbers item.new w.in_default.not-Some) w.rows-is (λ j. ap (λ s. member s j) w.changed-is) ]
-
-pub returns : goal.returns
-returns g c =
-    let es = listed g.W.Window.numbers c.as_slice-entry-items.result.now in
-    let w : Written g.W.Window.stands c.args.rows.now c.loop-entry.rows (member c.loop-entry.changed) es [] = subst (Written g.W.Window.stands c.args.rows.now c.loop-entry.rows (member c.loop-entry.changed) es) (listed_none g.W.Window.numbers c.as_slice-entry-items.result.now c.loop-entry.entry-index c.loop-entry-test.false) c.loop-entry.invariant in
-    record { table = w.gives ∙ ap (λ xs. replaced (map g.W.Window.stands c.args.rows.now) (listed g.W.Window.numbers xs)) c.as_slice-entry-items.ensures; changed = w.exact; rows = w.kept }
+    elim c.match-entry.branch [ in-Some+then-put w ↦ subst after (sym w.rows-is) (more w.put.new.rows w.put.result (w.put.ensures.table ∙ ap (λ o. set (map stands c.loop-entry.rows) item.at (numbers_of numbers o)) (sym w.in-Some.is)) w.put.ensures.differs w.put.ensures.same w.put.ensures.others (λ j. ap (λ s. member s j) w.changed-is ∙ w.add.ensures j ∙ ap (part j) (sym w.if-put.true))) | in-Some+else-put w ↦ subst after (sym w.rows-is) (more w.put.new.rows w.put.result (w.put.ensures.table ∙ ap (λ o. set (map stands c.loop-entry.rows) item.at (numbers_of numbers o)) (sym w.in-Some.is)) w.put.ensures.differs w.put.ensures.same w.put.ensures.others (λ j. ap (λ s. member s j) w.changed-is ∙ sym (or-false (member c.loop-entry.changed j)) ∙ ap (part j) (sym w.if-put.false))) | in_default w ↦ written_skip stands c.args.rows.now c.loop-entry.rows c.match-entry.rows (member c.loop-entry.changed) (member c.match-entry.changed) es rest (entry numbers item) inv (no_new numbers item.new w.in_default.not-Some) w.rows-is (λ j. ap (λ s. member s j) w.changed-is) ]
