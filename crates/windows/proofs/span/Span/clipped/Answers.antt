@@ -27,3 +27,15 @@ returns c =
     let ft = c.ranges.to in
     let t = c.if-lo-hi.false in
     ap₂ range (omega (arith, ints, clamps)) (omega (arith, ints, clamps))
+
+pub invariant_of-result : goal.invariant_of-result
+invariant_of-result c =
+    let s = c.args.self.now.stands in
+    let x = c.from.ensures in
+    let y = c.from-2.ensures in
+    let l = c.max-lo.ensures.value in
+    let h = c.min-hi.ensures.value in
+    let ff = c.ranges.from in
+    let ft = c.ranges.to in
+    let t = c.if-lo-hi.false in
+    record { stands = (omega (arith, ints, clamps), omega (arith, ints, clamps), omega (arith, ints, clamps)) }
