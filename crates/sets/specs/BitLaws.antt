@@ -1,15 +1,25 @@
 -- The bits of a number, as tests: those of the library are numbers, 0 or 1.
-use Rattle.std.proofs.Common.{◌≡◌, ℕ, ◌+◌, ◌-◌, ◌*◌, ◌/◌, ◌%◌, ◌^◌, ◌<◌, ◌≤◌, Bool, false, not, ◌&&◌, eqb, min, ◌⊎◌, sym, ap, ◌∙◌, inl, inr, arith, add-zero, w64}
+use Rattle.std.proofs.Common.{◌≡◌, ℕ, zero, suc, ◌+◌, ◌-◌, ◌*◌, ◌/◌, ◌%◌, ◌^◌, ◌<◌, ◌≤◌, Bool, false, not, ◌&&◌, eqb, min, ◌⊎◌, sym, ap, ◌∙◌, inl, inr, arith, add-zero, pow-suc, one-add}
 use lib.Bits.{bit_and}
 use Rattle.std.specs.Int.{bit_at}
 use Rattle.std.proofs.lemmas.Nat.{shr-shr, pow_pos, div-add-mod'}
-use Rattle.std.proofs.lemmas.Nat.Bits.{bit_at-zero, bit_at_and, bit_at-pow_same, bit_at-pow_other, bit_at_not, bit_at-lt, same_from_bits_below, bit_at_cat_low, bit_at_cat_high}
+use Rattle.std.proofs.lemmas.Nat.Bits.{bit_at-zero, bit_at_and, bit_at-pow_same, bit_at-pow_other, bit_at-lt, same_from_bits_below, bit_at_cat_low, bit_at_cat_high}
 use Rattle.std.proofs.lemmas.Bool.{cases_eq}
 use Rattle.std.proofs.lemmas.Bool.Decides.{nat_tests}
 
 -- is bit j of the number set
 abbrev pub bit : ℕ → ℕ → Bool
 bit m j = eqb ((m / 2 ^ j) % 2) 1
+
+doubled : (k : ℕ) → 2 ^ suc k ≡ 2 ^ k + 2 ^ k
+doubled k = let e = pow-suc 2 k in omega arith
+
+-- the lowest bit, and the others, which are those of the half
+pub bit_low : (m : ℕ) → bit m 0 ≡ eqb (m % 2) 1
+bit_low m = let e : m / 1 ≡ m = omega arith in ap (λ x. eqb (x % 2) 1) e
+
+pub bit_next : (m j : ℕ) → bit m (suc j) ≡ bit (m / 2) j
+bit_next m j = ap (λ x. eqb (x % 2) 1) (sym (shr-shr m 1 j ∙ ap (λ k. m / 2 ^ k) (one-add j)))
 
 pub bit_none : (j : ℕ) → bit 0 j ≡ false
 bit_none j = ap (λ x. eqb x 1) (bit_at-zero j)
@@ -37,11 +47,18 @@ bit_of_and a b j = both (bit_at (bit_and a b) j) (bit_at a j) (bit_at b j) (bit_
     both r x y e h k = grind (arith, nat_tests)
 
 -- the bits of the complement
-pub bit_not : (m j : ℕ) → m < 2 ^ 64 → j < 64 → bit (2 ^ 64 - 1 - m) j ≡ not (bit m j)
-bit_not m j h l = turn (bit_at (2 ^ 64 - 1 - m) j) (bit_at m j) (bit_at_not w64 m j h l) (bit_at-lt m j)
-  where
-    turn : (r x : ℕ) → r ≡ 1 - x → x < 2 → eqb r 1 ≡ not (eqb x 1)
-    turn r x e h = grind (arith, nat_tests)
+pub bit_not : (n m j : ℕ) → m < 2 ^ n → j < n → bit (2 ^ n - 1 - m) j ≡ not (bit m j)
+bit_not zero m j h l = absurd (omega arith)
+bit_not (suc n) m zero h l =
+    let d = doubled n in
+    let p = pow_pos n in
+    let q : (2 ^ suc n - 1 - m) % 2 ≡ 1 - m % 2 = omega arith in
+    let s : eqb ((2 ^ suc n - 1 - m) % 2) 1 ≡ not (eqb (m % 2) 1) = grind (arith, nat_tests) in
+    bit_low (2 ^ suc n - 1 - m) ∙ s ∙ ap not (sym (bit_low m))
+bit_not (suc n) m (suc j) h l =
+    let d = doubled n in
+    let q : (2 ^ suc n - 1 - m) / 2 ≡ 2 ^ n - 1 - m / 2 = omega arith in
+    bit_next (2 ^ suc n - 1 - m) j ∙ ap (λ x. bit x j) q ∙ bit_not n (m / 2) j (omega arith) (omega arith) ∙ ap not (sym (bit_next m j))
 
 -- the lowest n bits are those of the rest
 pub bit_mod : (n m j : ℕ) → j < n → bit (m % 2 ^ n) j ≡ bit m j

@@ -113,7 +113,7 @@ all_but_mask a k h = mask_from _ (bit_and a (2 ^ 64 - 1 - 2 ^ k)) (rising_remove
         let r = has_remove (pos k) (mask_numbers a) (pos j) in
         let x = has_bit a j l in
         let e : eq_z (pos j) (pos k) ≡ eqb k j = grind (arith, ints, tests, nat_tests) in
-        let n = bit_not (2 ^ k) j (pow_below k 64 h) l in
+        let n = bit_not 64 (2 ^ k) j (pow_below k 64 h) l in
         let p = bit_pow k j in
         let z = bit_of_and a (2 ^ 64 - 1 - 2 ^ k) j in
         grind arith

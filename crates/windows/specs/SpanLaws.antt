@@ -172,9 +172,17 @@ fits_hi lo hi s = omega (arith, ints)
 pub eq_is : (a b : ℤ) → int_eq a b ≡ eq_z a b
 eq_is a b = same_from_decides (int_eq a b) (eq_z a b) (Decides-int_eq a b) ((λ e. grind (arith, tests)), (λ e. grind (arith, tests)))
 
-pub alike_is : (a b c d : ℤ) → Stands a b → Stands c d → same_set (range a b) (range c d) ≡ (int_eq a c && int_eq b d)
-alike_is a b c d s t =
+pub alike_ends : (a b c d : ℤ) → Stands a b → Stands c d → same_set (range a b) (range c d) ≡ (int_eq a c && int_eq b d)
+alike_ends a b c d s t =
     let e = eq_is a c in
     let f = eq_is b d in
+    let g = same_range a b c d s.0 t.0 in
+    cc
+
+-- the same at the machine's numbers
+pub alike_is : (a b c d : ℤ) → Stands a b → Stands c d → same_set (range a b) (range c d) ≡ (eqb (of_z w32 a) (of_z w32 c) && eqb (of_z w32 b) (of_z w32 d))
+alike_is a b c d s t =
+    let e = bits_same a c (fits_lo a b s) (fits_lo c d t) in
+    let f = bits_same b d (fits_hi a b s) (fits_hi c d t) in
     let g = same_range a b c d s.0 t.0 in
     cc
