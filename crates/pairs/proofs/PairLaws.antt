@@ -1,9 +1,9 @@
 -- The laws of the rules on two windows, for every kind, and the new windows that the code writes.
-use Rattle.std.proofs.Common.{◌≡◌, ℕ, suc, ◌<◌, ◌≤◌, min, max, Bool, true, false, not, ◌&&◌, ◌||◌, eqb, ltb, ◌⊎◌, List, [], ◌∷◌, length, ℤ, None, sym, refl, ap, ◌∙◌, subst, ap₂, inl, inr, arith}
+use Rattle.std.proofs.Common.{◌≡◌, ℕ, suc, ◌<◌, ◌≤◌, max, Bool, true, false, not, ◌||◌, eqb, ◌⊎◌, List, [], ◌∷◌, length, ℤ, None, sym, refl, ap, ◌∙◌, subst, ap₂, inl, inr, arith}
 use Rattle.std.proofs.lemmas.Bool.Decides.{nat_tests, eqb_tells}
 use Rattle.windows.specs.Sets.{eq_z, In, Within, Rising, meet}
 use Rattle.windows.specs.Kinds.{Kind, Of, Proper}
-use Rattle.windows.specs.SetLaws.{tests, never, in_cons, in_here, within_both}
+use Rattle.windows.specs.SetLaws.{tests, never, in_here, within_both}
 use Rattle.windows.proofs.KindLaws.{in_meet, meet_in, meet_of, but_within, but_kind, but_mono, but_keeps}
 use Rattle.rulebook.specs.Tables.{Table, Placing, window, place, filled, Inside, Places, Every}
 use Rattle.rulebook.specs.Rules.{Agree, Lawful}
@@ -28,12 +28,7 @@ abbrev Cases3 : ℕ → ℕ → ℕ → Type 0
 Cases3 p q j = ((eqb p j ≡ true) × (p ≡ j)) ⊎ (((eqb p j ≡ false) × (eqb q j ≡ true) × (q ≡ j)) ⊎ ((eqb p j ≡ false) × (eqb q j ≡ false)))
 
 cases3 : (p q j : ℕ) → Cases3 p q j
-cases3 p q j = go (eqb_tells p j) (eqb_tells q j)
-  where
-    go : ((eqb p j ≡ true) × (p ≡ j)) ⊎ ((eqb p j ≡ false) × (p ≡ j → ⊥)) → ((eqb q j ≡ true) × (q ≡ j)) ⊎ ((eqb q j ≡ false) × (q ≡ j → ⊥)) → Cases3 p q j
-    go (inl a) b = inl a
-    go (inr a) (inl b) = inr (inl (a.0, b.0, b.1))
-    go (inr a) (inr b) = inr (inr (a.0, b.0))
+cases3 p q j = let a = eqb_tells p j in let b = eqb_tells q j in grind arith
 
 module _ (k : Kind) (f g : List ℤ → List ℤ → List ℤ) (allows : ℤ → ℤ → Bool) (laws : PairLaws k f g allows) (p q : ℕ) where
   at_p : (T : Table) (j : ℕ) → eqb p j ≡ true → pair_new f g p q T j ≡ f (window T p) (window T q)
@@ -132,11 +127,7 @@ only [] v r n w = absurd (omega arith)
 only (x ∷ t) v r n w = within_both (x ∷ t) (v ∷ []) r tt w (λ y i. subst (λ z. In z (x ∷ t)) (one x (w x (in_here x t)) ∙ sym (one y i)) (in_here x t))
   where
     one : (y : ℤ) → In y (v ∷ []) → y ≡ v
-    one y i = by (in_cons v [] y i)
-      where
-        by : (v ≡ y) ⊎ In y [] → y ≡ v
-        by (inl q) = sym q
-        by (inr q) = never q
+    one y i = grind (arith, tests)
 
 module _ (k : Kind) (c : Proper k) where
   lose_within : (s t : List ℤ) → Of k s → Within (lose_sole k s t) s
@@ -156,11 +147,7 @@ module _ (k : Kind) (c : Proper k) where
 
   lose_keeps : (s t : List ℤ) (v w : ℤ) → In v s → In w t → (v ≡ w → ⊥) → In v (lose_sole k s t)
   lose_keeps s [] v w i j n = i
-  lose_keeps s (x ∷ []) v w i j n = but_keeps k c s x v i (λ e. n (e ∙ one (in_cons x [] w j)))
-    where
-      one : (x ≡ w) ⊎ In w [] → x ≡ w
-      one (inl q) = q
-      one (inr q) = never q
+  lose_keeps s (x ∷ []) v w i j n = but_keeps k c s x v i (λ e. n (grind (arith, tests)))
   lose_keeps s (x ∷ (y ∷ t)) v w i j n = i
 
   apart : (v w : ℤ) → not (eq_z v w) ≡ true → v ≡ w → ⊥
@@ -174,19 +161,7 @@ module _ (k : Kind) (c : Proper k) where
 
 -- ---- what a pair is refused for
 pub pair_within : (p q n j : ℕ) → pair_asks p q n ≡ None → pair_reads p q j ≡ true → j < n
-pair_within p q n j a r = go (ltb p (min n 64) && ltb q (min n 64)) refl
-  where
-    go : (t : Bool) → (ltb p (min n 64) && ltb q (min n 64)) ≡ t → j < n
-    go true e = let x : p < min n 64 = grind (arith, nat_tests) in let y : q < min n 64 = grind (arith, nat_tests) in let z : (p ≡ j) ⊎ (q ≡ j) = either (eqb_tells p j) (eqb_tells q j) in elim z [ inl h ↦ omega arith | inr h ↦ omega arith ]
-      where
-        either : ((eqb p j ≡ true) × (p ≡ j)) ⊎ ((eqb p j ≡ false) × (p ≡ j → ⊥)) → ((eqb q j ≡ true) × (q ≡ j)) ⊎ ((eqb q j ≡ false) × (q ≡ j → ⊥)) → (p ≡ j) ⊎ (q ≡ j)
-        either (inl a) b = inl a.1
-        either (inr a) (inl b) = inr b.1
-        either (inr a) (inr b) = never (grind arith)
-    go false e = never (let x : ◌≡◌ {A = ℕ} 0 1 = none_some e in absurd (omega arith))
-      where
-        none_some : (ltb p (min n 64) && ltb q (min n 64)) ≡ false → ◌≡◌ {A = ℕ} 0 1
-        none_some e = let y = rw e at a in cc
+pair_within p q n j a r = grind (arith, nat_tests)
 
 -- a pair of windows below 64 reads only those
 pub pair_near : (p q j : ℕ) → Apart p q → pair_reads p q j ≡ true → j < 64
@@ -198,7 +173,7 @@ entries_two f g p q T a b = rw (a, b) refl
 
 pub entries_none : (f g : List ℤ → List ℤ → List ℤ) (p q : ℕ) (T : Table) → (window T p ≡ []) ⊎ (window T q ≡ []) → [] ≡ pair_entries f g p q T
 entries_none f g p q T (inl z) = let e = ap filled z in rw e refl
-entries_none f g p q T (inr z) = let e = ap filled z in let t : (filled (window T p) && filled (window T q)) ≡ false = grind arith in rw t refl
+entries_none f g p q T (inr z) = let e = ap filled z in grind arith
 
 -- they give the rule's outcome
 pub pair_written : (f g : List ℤ → List ℤ → List ℤ) (allows : ℤ → ℤ → Bool) (p q : ℕ) (T : Table) → eqb p q ≡ false → written T (pair_entries f g p q T) ≡ outcome (rule_of (pair_rule f g allows p q)) T
@@ -234,9 +209,18 @@ pair_written f g allows p q T ne = go (filled (window T p)) (filled (window T q)
     go false b x y = let z = none _ x in nothing p z (omega arith) (sym (entries_none f g p q T (inl z)))
     go true false x y = let z = none _ y in nothing q z (omega arith) (sym (entries_none f g p q T (inr z)))
 
-pub list_written : (f g : List ℤ → List ℤ → List ℤ) (allows : ℤ → ℤ → Bool) (p q : ℕ) (T : Table) (es : List Entry) → eqb p q ≡ false → es ≡ pair_entries f g p q T → written T es ≡ outcome (rule_of (pair_rule f g allows p q)) T
-list_written f g allows p q T es ne e = ap (written T) e ∙ pair_written f g allows p q T ne
+-- what a call gives: the new windows of the definition, which come to the rule's outcome
+abbrev pub Given : (f g : List ℤ → List ℤ → List ℤ) (allows : ℤ → ℤ → Bool) (p q : ℕ) (T : Table) (es : List Entry) → Type 0
+Given f g allows p q T es = (es ≡ pair_entries f g p q T) × (written T es ≡ outcome (rule_of (pair_rule f g allows p q)) T)
 
--- the two new windows, made from the old ones
-pub two_made : (f g : List ℤ → List ℤ → List ℤ) (p q : ℕ) (T : Table) (x y s t : List ℤ) → s ≡ window T p → t ≡ window T q → 0 < length s → 0 < length t → x ≡ f s t → y ≡ g s t → record { at = p; new = x } ∷ (record { at = q; new = y } ∷ []) ≡ pair_entries f g p q T
-two_made f g p q T x y s t es et ns nt ex ey = ap₂ {C = List Entry} (λ (x y : List ℤ). record { at = p; new = x } ∷ (record { at = q; new = y } ∷ [])) (ex ∙ ap₂ f es et) (ey ∙ ap₂ g es et) ∙ entries_two f g p q T (sym (ap filled es) ∙ some_filled s ns) (sym (ap filled et) ∙ some_filled t nt)
+module _ (f g : List ℤ → List ℤ → List ℤ) (allows : ℤ → ℤ → Bool) (p q : ℕ) (T : Table) (a : Apart p q) (es : List Entry) where
+  given : es ≡ pair_entries f g p q T → Given f g allows p q T es
+  given e = (e, ap (written T) e ∙ pair_written f g allows p q T a.2)
+
+  -- no new window, where one of the two windows is missing
+  pub none_given : (window T p ≡ []) ⊎ (window T q ≡ []) → es ≡ [] → Given f g allows p q T es
+  none_given z e = given (e ∙ entries_none f g p q T z)
+
+  -- the two new windows, made from the old ones
+  pub two_given : (x y s t : List ℤ) → es ≡ record { at = p; new = x } ∷ (record { at = q; new = y } ∷ []) → s ≡ window T p → t ≡ window T q → 0 < length s → 0 < length t → x ≡ f s t → y ≡ g s t → Given f g allows p q T es
+  two_given x y s t e es et ns nt ex ey = given (e ∙ ap₂ {C = List Entry} (λ (x y : List ℤ). record { at = p; new = x } ∷ (record { at = q; new = y } ∷ [])) (ex ∙ ap₂ f es et) (ey ∙ ap₂ g es et) ∙ entries_two f g p q T (sym (ap filled es) ∙ some_filled s ns) (sym (ap filled et) ∙ some_filled t nt))
