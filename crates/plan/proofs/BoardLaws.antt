@@ -1,10 +1,9 @@
 -- What a board's check tells.
-use Rattle.std.proofs.Common.{◌≡◌, ℕ, zero, suc, ◌*◌, ◌<◌, ◌≤◌, Bool, true, false, cond, ◌&&◌, eqb, leb, List, [], ◌∷◌, map, length, ℤ, Some, None, Option, sym, refl, ap, ◌∙◌, subst, arith}
+use Rattle.std.proofs.Common.{◌≡◌, ℕ, zero, suc, ◌*◌, ◌<◌, ◌≤◌, Bool, true, false, cond, ◌&&◌, eqb, leb, List, [], ◌∷◌, map, length, ℤ, Some, None, sym, refl, ap, subst, arith}
 use Rattle.std.proofs.lemmas.List.{length-map}
-use Rattle.std.proofs.lemmas.Bool.{and_parts, and_from, leb-true, eqb-true, both_ways, cond-true, cond-false, le-leb, lt-leb}
+use Rattle.std.proofs.lemmas.Bool.{and_parts, and_from, leb-true, eqb-true, both_ways}
 use Rattle.rulebook.specs.Tables.{Table, window, Every, filled, all_filled}
 use Rattle.plan.specs.Refusals.{is_table, board_refusal}
-use Rattle.plan.specs.declared.answer.PlanRefusal.{PlanRefusal}
 use Rattle.plan.specs.declared.answer.PlanRefusal.TheVariants.{Windows, Store, Length}
 
 filled_some : (s : List ℤ) → (s ≡ [] → ⊥) → filled s ≡ true
@@ -38,26 +37,15 @@ fine T long wanted = go (is_table T) refl (leb (16 * length T) long) refl wanted
   where
     go : (a : Bool) → is_table T ≡ a → (b : Bool) → leb (16 * length T) long ≡ b → (c : Bool) → cond a (cond b (cond c None (Some Length)) (Some Store)) (Some Windows) ≡ None → Fine T long c
     go true p true q true e = let t = table_few T p in record { some = t.0; few = t.1; windows = t.2; store = leb-true (16 * length T) long q; same = refl }
-    go true p true q false e = absurd (let z : ◌≡◌ {A = ℕ} 0 1 = cc in omega arith)
-    go true p false q c e = absurd (let z : ◌≡◌ {A = ℕ} 0 1 = cc in omega arith)
-    go false p b q c e = absurd (let z : ◌≡◌ {A = ℕ} 0 1 = cc in omega arith)
-
--- the second and the third question
-pub refused_store : (T : Table) (long : ℕ) (wanted : Bool) → is_table T ≡ true → long < 16 * length T → Some Store ≡ board_refusal T long wanted
-refused_store T long wanted e l = sym (cond-true (is_table T) (cond (leb (16 * length T) long) (cond wanted None (Some Length)) (Some Store)) (Some Windows) e ∙ cond-false (leb (16 * length T) long) (cond wanted None (Some Length)) (Some Store) (lt-leb (16 * length T) long l))
-
-pub asked_length : (T : Table) (long : ℕ) (wanted : Bool) → is_table T ≡ true → 16 * length T ≤ long → board_refusal T long wanted ≡ cond wanted None (Some Length)
-asked_length T long wanted e l = cond-true (is_table T) (cond (leb (16 * length T) long) (cond wanted None (Some Length)) (Some Store)) (Some Windows) e ∙ cond-true (leb (16 * length T) long) (cond wanted None (Some Length)) (Some Store) (le-leb (16 * length T) long l)
+    go true p true q false e = cc
+    go true p false q c e = cc
+    go false p b q c e = cc
 
 -- the same, of the rows
 pub fine_rows : {Row : Type 0} (stands : Row → List ℤ) (rows : List Row) (long n : ℕ) → None ≡ board_refusal (map stands rows) long (eqb (length (map stands rows)) n) → (length rows ≡ n) × (length rows ≤ 64) × (16 * length rows ≤ long)
 fine_rows stands rows long n e =
     let f = fine (map stands rows) long (eqb (length (map stands rows)) n) (sym e) in
     (simp length-map at (eqb-true (length (map stands rows)) n f.same), simp length-map at f.few, simp length-map at f.store)
-
--- the questions, asked of rows by their count
-pub counted : {Row : Type 0} (stands : Row → List ℤ) (rows : List Row) (f : ℕ → Bool) (o : Option PlanRefusal) (long : ℕ) → o ≡ board_refusal (map stands rows) long (f (length rows)) → o ≡ board_refusal (map stands rows) long (f (length (map stands rows)))
-counted stands rows f o long e = e ∙ ap (λ n. board_refusal (map stands rows) long (f n)) (sym (length-map rows stands))
 
 -- no window of a table that passed is empty
 pub filled_at : (T : Table) (j : ℕ) → all_filled T ≡ true → j < length T → window T j ≡ [] → ⊥

@@ -11,7 +11,7 @@ use Rattle.policies.specs.Waiting.{puts}
 use Rattle.plan.specs.States.{State, Copy, state, at, failed}
 use Rattle.plan.specs.Settling.{enough, run, settling, Run, Runs, is_impossible}
 use Rattle.plan.specs.Calls.{Cut, cut_to, cutting}
-use Rattle.plan.specs.Refusals.{refused, or_else, window_refusal, possible_refusal, Call, unless, settle_call, cut_call}
+use Rattle.plan.specs.Refusals.{refused, or_else, window_refusal, Call, unless, settle_call, cut_call}
 use Rattle.plan.specs.declared.answer.Verdict.{Verdict}
 use Rattle.plan.specs.declared.answer.Verdict.TheVariants as verdict
 use Rattle.plan.specs.declared.answer.Cutting.{Cutting}
@@ -31,7 +31,7 @@ asked_next board next o e q = ap (λ x. or_else x next) (sym e) ∙ q
 
 -- no question was answered no
 pub none_asked : (board next : Option PlanRefusal) → or_else board next ≡ None → (board ≡ None) × (next ≡ None)
-none_asked (Some f) next e = absurd (let z : ◌≡◌ {A = ℕ} 0 1 = cc in omega arith)
+none_asked (Some f) next e = cc
 none_asked None next e = (refl, e)
 
 -- a value, or else this refusal
@@ -46,12 +46,12 @@ none_or (Some y) f g e = cc
 -- the window at j, or else the refusal that there is none
 module _ {W : Type 0} (numbers : W → List ℤ) (T : Table) (j : ℕ) where
   pub window_there : (o : Option W) (w : W) → MatchOption o (window T j ≡ []) (λ x. numbers x ≡ window T j) → Ok w ≡ ok_or o refusal.Window → numbers w ≡ window T j
-  window_there None w h e = absurd (let z : ◌≡◌ {A = ℕ} 0 1 = cc in omega arith)
+  window_there None w h e = cc
   window_there (Some x) w h e = let q : w ≡ x = cc in ap numbers q ∙ h
 
   pub window_gone : (o : Option W) (g : PlanRefusal) → MatchOption o (window T j ≡ []) (λ x. numbers x ≡ window T j) → Err g ≡ ok_or o refusal.Window → (window T j ≡ []) × (g ≡ refusal.Window)
   window_gone None g h e = (h, cc)
-  window_gone (Some x) g h e = absurd (let z : ◌≡◌ {A = ℕ} 0 1 = cc in omega arith)
+  window_gone (Some x) g h e = cc
 
 -- ---- calls
 pub call_refused : {A : Type 0} (o : Option PlanRefusal) (f : PlanRefusal) (s : State) (c : Call A) → o ≡ Some f → unless o s c ≡ record { answer = Err f; after = s }
@@ -80,7 +80,7 @@ in_table_from j T = go (ltb j (length T)) refl
   where
     go : (b : Bool) → ltb j (length T) ≡ b → cond b None (Some refusal.Window) ≡ None → j < length T
     go true e q = ltb-true j (length T) e
-    go false e q = absurd (let z : ◌≡◌ {A = ℕ} 0 1 = cc in omega arith)
+    go false e q = cc
 
 -- a window with a number is in the table, and of a table that passed there is no other
 pub there_window : (T : Table) (j : ℕ) (s : List ℤ) → s ≡ window T j → 0 < length s → j < length T
@@ -107,10 +107,3 @@ module _ (j : ℕ) (g : List ℤ) (long : ℕ) (s : State) (e : refused long s �
   pub cut_changed : (m : List ℤ) (T : Table) (w : List ℕ) → meet (window s.table j) g ≡ m → 0 < length m → same_set (window s.table j) m ≡ false → T ≡ set s.table j m → w ≡ puts (reads_at s.rules j) (length s.rules) s.waiting → cut_call j g long s ≡ record { answer = Ok Changed; after = at s T w }
   cut_changed [] T w q some same t x = absurd (omega arith)
   cut_changed (v ∷ m) T w q some same t x = by_way (v ∷ m) (record { answer = Ok Changed; after = at s T w }) q (ap (way (v ∷ m)) same ∙ ap {B = Call Cutting} (λ (U : Table). record { answer = Ok Changed; after = at s U (puts (reads_at s.rules j) (length s.rules) s.waiting) }) (sym t) ∙ ap {B = Call Cutting} (λ (u : List ℕ). record { answer = Ok Changed; after = at s T u }) (sym x))
-
--- ---- showing
-pub still_possible : (s : State) → s.impossible ≡ false → possible_refusal s ≡ None
-still_possible s e = cond-false s.impossible (Some refusal.Impossible) None e
-
-pub no_more : (s : State) → s.impossible ≡ true → possible_refusal s ≡ Some refusal.Impossible
-no_more s e = cond-true s.impossible (Some refusal.Impossible) None e

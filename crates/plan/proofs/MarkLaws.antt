@@ -32,7 +32,7 @@ found_some slots m (suc d) i l e none = ⊎_elim here (below (found_some slots m
     below ih n = cond-false (eqb m (get_or slots d no_slot).number) (Some d) (found slots m d) (ne_eqb m (get_or slots d no_slot).number (λ q. none d (omega arith) (omega arith) (sym q))) ∙ ih (omega arith) e (λ k a b. none k a (omega arith))
 
 pub found_below : (slots : List Slot) (m d k : ℕ) → found slots m d ≡ Some k → k < d
-found_below slots m zero k e = absurd (let z : ◌≡◌ {A = ℕ} 0 1 = cc in omega arith)
+found_below slots m zero k e = cc
 found_below slots m (suc d) k e = go (eqb m (get_or slots d no_slot).number) (found_below slots m d k) e
   where
     go : (b : Bool) → (found slots m d ≡ Some k → k < d) → cond b (Some d) (found slots m d) ≡ Some k → k < suc d
@@ -52,7 +52,7 @@ module _ {Row : Type 0} (stands : Row → List ℤ) (slots : List Slot) (n : ℕ
   copies_long (suc d) = ap suc (copies_long d)
 
   pub found_open : (d k : ℕ) → found slots m d ≡ Some k → is_open m (copies stands slots n store d) ≡ true
-  found_open zero k e = absurd (let z : ◌≡◌ {A = ℕ} 0 1 = cc in omega arith)
+  found_open zero k e = cc
   found_open (suc d) k e = go (eqb m (get_or slots d no_slot).number) (found_open d k) e
     where
       go : (b : Bool) → (found slots m d ≡ Some k → is_open m (copies stands slots n store d) ≡ true) → cond b (Some d) (found slots m d) ≡ Some k → cond b true (is_open m (copies stands slots n store d)) ≡ true
@@ -64,11 +64,11 @@ module _ {Row : Type 0} (stands : Row → List ℤ) (slots : List Slot) (n : ℕ
   found_ended (suc d) e = go (eqb m (get_or slots d no_slot).number) (found_ended d) e
     where
       go : (b : Bool) → (found slots m d ≡ None → is_open m (copies stands slots n store d) ≡ false) → cond b (Some d) (found slots m d) ≡ None → cond b true (is_open m (copies stands slots n store d)) ≡ false
-      go true ih e = absurd (let z : ◌≡◌ {A = ℕ} 0 1 = cc in omega arith)
+      go true ih e = cc
       go false ih e = ih e
 
   pub keep_found : (s : State) (d k : ℕ) → found slots m d ≡ Some k → keeping_at m s (copies stands slots n store d) ≡ with_marks s (copies stands slots n store k)
-  keep_found s zero k e = absurd (let z : ◌≡◌ {A = ℕ} 0 1 = cc in omega arith)
+  keep_found s zero k e = cc
   keep_found s (suc d) k e = go (eqb m (get_or slots d no_slot).number) (keep_found s d k) e
     where
       go : (b : Bool) → (found slots m d ≡ Some k → keeping_at m s (copies stands slots n store d) ≡ with_marks s (copies stands slots n store k)) → cond b (Some d) (found slots m d) ≡ Some k → cond b (with_marks s (copies stands slots n store d)) (keeping_at m s (copies stands slots n store d)) ≡ with_marks s (copies stands slots n store k)
@@ -76,7 +76,7 @@ module _ {Row : Type 0} (stands : Row → List ℤ) (slots : List Slot) (n : ℕ
       go false ih e = ih e
 
   pub back_found : (s : State) (d k : ℕ) → found slots m d ≡ Some k → taking_back_at m s (copies stands slots n store d) ≡ restored s (copy_at stands slots n store k) (copies stands slots n store k)
-  back_found s zero k e = absurd (let z : ◌≡◌ {A = ℕ} 0 1 = cc in omega arith)
+  back_found s zero k e = cc
   back_found s (suc d) k e = go (eqb m (get_or slots d no_slot).number) (back_found s d k) e
     where
       go : (b : Bool) → (found slots m d ≡ Some k → taking_back_at m s (copies stands slots n store d) ≡ restored s (copy_at stands slots n store k) (copies stands slots n store k)) → cond b (Some d) (found slots m d) ≡ Some k → cond b (restored s (copy_at stands slots n store d) (copies stands slots n store d)) (taking_back_at m s (copies stands slots n store d)) ≡ restored s (copy_at stands slots n store k) (copies stands slots n store k)

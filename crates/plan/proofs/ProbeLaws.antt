@@ -1,5 +1,5 @@
 -- Trying a cut out: its equation, from those of the calls that it makes.
-use Rattle.std.proofs.Common.{◌≡◌, ℕ, ◌*◌, ◌<◌, Bool, true, false, cond, ltb, List, map, length, ℤ, Some, None, Ok, Option, Result, sym, refl, ap, ◌∙◌, arith}
+use Rattle.std.proofs.Common.{◌≡◌, ℕ, ◌*◌, ◌<◌, Bool, true, false, cond, ltb, List, map, length, ℤ, Some, None, Ok, Option, Result, sym, refl, ap, ◌∙◌}
 use Rattle.std.proofs.lemmas.Bool.{ltb-true}
 use Rattle.plan.specs.States.{State}
 use Rattle.plan.specs.Calls.{marking}
@@ -18,7 +18,7 @@ use Rattle.plan.proofs.StoreLaws.{stored_long}
 
 -- a call that answers no refusal was not refused
 accepted : {A : Type 0} (o : Option PlanRefusal) (s : State) (c : Call A) (x : A) (t : State) → unless o s c ≡ record { answer = Ok x; after = t } → o ≡ None
-accepted {A} (Some f) s c x t e = absurd (let a = ap (λ (k : Call A). k.answer) e in let z : ◌≡◌ {A = ℕ} 0 1 = cc in omega arith)
+accepted {A} (Some f) s c x t e = let a = ap (λ (k : Call A). k.answer) e in cc
 accepted None s c x t e = refl
 
 few_marks : (s : State) → mark_refusal s ≡ None → length s.marks < 16
@@ -26,7 +26,7 @@ few_marks s = go (ltb (length s.marks) 16) refl
   where
     go : (b : Bool) → ltb (length s.marks) 16 ≡ b → cond b (cond (ltb s.handed 1000000000) None (Some Handed)) (Some Marks) ≡ None → length s.marks < 16
     go true e q = ltb-true (length s.marks) 16 e
-    go false e q = absurd (let z : ◌≡◌ {A = ℕ} 0 1 = cc in omega arith)
+    go false e q = cc
 
 -- a marking keeps the store's length
 pub mark_long : {Row : Type 0} (stands : Row → List ℤ) (rows store store' : List Row) (s t : State) (m : Mark) → s.table ≡ map stands rows → mark_call (length store) s ≡ record { answer = Ok m; after = t } → store' ≡ stored store (length s.marks * s.windows) rows → length store' ≡ length store

@@ -14,7 +14,7 @@ pub narrowed_once : {T U : Table} → narrowed T ≡ narrowed U → T ≡ U
 narrowed_once e = cc
 
 pub not_both : {T : Table} {j : ℕ} {o : Outcome} → o ≡ narrowed T → o ≡ emptied j → ⊥
-not_both p q = let z : ◌≡◌ {A = ℕ} 0 1 = cc in omega arith
+not_both p q = cc
 
 pub missing_lawful : (sets : List ℤ → Type 0) → Lawful sets missing
 missing_lawful sets =

@@ -29,24 +29,24 @@ left choice w = (taking choice w).after
 
 -- the step that a turn of the loop takes
 step_went : (choice : List ℕ → ℕ) (rules : List Rule) (w : List ℕ) (T U : Table) (i : ℕ) (z : ℕ) (cs : List Copy) (h : ℕ) → taken choice w ≡ Some i → (get_or rules i missing).narrow T ≡ narrowed U → step choice (state rules w false T z cs h) ≡ went (state rules (woken rules T U (left choice w)) false U z cs h)
-step_went choice rules [] T U i z cs h e q = absurd (let z : ◌≡◌ {A = ℕ} 0 1 = cc in omega arith)
+step_went choice rules [] T U i z cs h e q = cc
 step_went choice rules (x ∷ w) T U i z cs h e q =
     let c : choice (x ∷ w) ≡ i = cc in
     ap (narrowing (state rules (x ∷ w) false T z cs h) (choice (x ∷ w)) (remove (choice (x ∷ w)) (x ∷ w))) (ap (λ (k : ℕ). (get_or rules k missing).narrow T) c ∙ q)
 
 step_stuck : (choice : List ℕ → ℕ) (rules : List Rule) (w : List ℕ) (T : Table) (i j : ℕ) (z : ℕ) (cs : List Copy) (h : ℕ) → taken choice w ≡ Some i → (get_or rules i missing).narrow T ≡ emptied j → step choice (state rules w false T z cs h) ≡ stuck i j (state rules (left choice w) true T z cs h)
-step_stuck choice rules [] T i j z cs h e q = absurd (let z : ◌≡◌ {A = ℕ} 0 1 = cc in omega arith)
+step_stuck choice rules [] T i j z cs h e q = cc
 step_stuck choice rules (x ∷ w) T i j z cs h e q =
     let c : choice (x ∷ w) ≡ i = cc in
     ap (narrowing (state rules (x ∷ w) false T z cs h) (choice (x ∷ w)) (remove (choice (x ∷ w)) (x ∷ w))) (ap (λ (k : ℕ). (get_or rules k missing).narrow T) c ∙ q) ∙ ap (λ (k : ℕ). stuck k j (state rules (remove (choice (x ∷ w)) (x ∷ w)) true T z cs h)) c
 
 some_waits : (choice : List ℕ → ℕ) (w : List ℕ) (i : ℕ) → taken choice w ≡ Some i → 0 < length w
-some_waits choice [] i e = absurd (let z : ◌≡◌ {A = ℕ} 0 1 = cc in omega arith)
+some_waits choice [] i e = cc
 some_waits choice (x ∷ w) i e = omega arith
 
 none_waits : (choice : List ℕ → ℕ) (w : List ℕ) → taken choice w ≡ None → w ≡ []
 none_waits choice [] e = refl
-none_waits choice (x ∷ w) e = absurd (let z : ◌≡◌ {A = ℕ} 0 1 = cc in omega arith)
+none_waits choice (x ∷ w) e = cc
 
 run_none : (choice : List ℕ → ℕ) (rules : List Rule) (T : Table) (k n : ℕ) (z : ℕ) (cs : List Copy) (h : ℕ) → run choice k n (state rules [] false T z cs h) ≡ record { verdict = Settled n; after = state rules [] false T z cs h }
 run_none choice rules T zero n z cs h = refl

@@ -3,15 +3,12 @@ use Rattle.std.proofs.lemmas.List.{length-map}
 use Rattle.policies.specs.Waiting.{Taken}
 use Rattle.policies.specs.DistinctLaws.{at_most_64}
 use Rattle.plan.proofs.ProperSets.{ProperSets, proper_sets}
-use Rattle.plan.proofs.RunLaws.{Turned, started, changed_turn, emptied_end, last_turn, no_overflow}
+use Rattle.plan.proofs.RunLaws.{Turned, changed_turn, emptied_end, last_turn, no_overflow}
 use Rattle.plan.proofs.settling.run.Given as given
 use Rattle.plan.proofs.settling.run.Goals as goal
 
 proper : (g : given.Over) → ProperSets g.B.RuleBook.sets
 proper g = proper_sets g.B.Kind.Window.kind g.met.B.Kind.Window.proper g.B.RuleBook.sets g.met.B.RuleBook.tied
-
-pub loop-rule-init : goal.loop-rule-init
-loop-rule-init g c = started g.B.RuleBook.sets g.P.Policy.choice (g.B.RuleBook.rules c.args.book.now) (g.P.Policy.waiting c.args.policy.now) (map g.B.Kind.Window.stands c.args.rows.now) c.requires.windows
 
 pub overflow_add-steps : goal.overflow_add-steps
 overflow_add-steps g c =

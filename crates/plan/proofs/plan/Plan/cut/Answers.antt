@@ -1,4 +1,4 @@
-use Rattle.std.proofs.Common.{◌≡◌, true, false, eqb, List, ℕ, ℤ, [], map, length, set, Some, Ok, Result, sym, refl, ap, ◌∙◌, subst, rules}
+use Rattle.std.proofs.Common.{◌≡◌, true, false, eqb, List, ℕ, ℤ, [], map, length, set, Some, Ok, Result, sym, ap, ◌∙◌, subst, rules}
 use Rattle.std.proofs.lemmas.List.{map-set}
 use Rattle.std.proofs.lemmas.Result.{err_from_is_err_and}
 use Rattle.windows.specs.Sets.{same_set, meet}
@@ -36,9 +36,6 @@ returns-in_err-old-clause-equation g c =
     let f = fine s.table long (eqb (length s.table) s.windows) (sym c.in_ok-check.ensures) in
     rw (p.1, p.2, q.1) (call_refused (or_else (refused long s) (window_refusal j s.table)) Window s (record { answer = Ok (cutting j other s).answer; after = (cutting j other s).after }) (asked_next (refused long s) (window_refusal j s.table) (Some Window) c.in_ok-check.ensures (no_window s.table j f.windows q.0)))
 
-pub returns-in_err-old-clause-rows : goal.returns-in_err-old-clause-rows
-returns-in_err-old-clause-rows g c = let p = err_from_is_err_and c.from_residual-in_err-old.result c.from_residual-in_err-old.ensures.1 in rw p.1 refl
-
 pub returns-in_err-old-clause-asked : goal.returns-in_err-old-clause-asked
 returns-in_err-old-clause-asked g c = asked g c.args.j c.args.window (length c.args.board.now.store.now) _ _ _ (returns-in_err-old-clause-equation g c)
 
@@ -68,8 +65,8 @@ returns-then-alike-clause-equation g c =
 pub returns-then-alike-clause-asked : goal.returns-then-alike-clause-asked
 returns-then-alike-clause-asked g c = asked g c.args.j c.args.window (length c.args.board.now.store.now) _ _ _ (returns-then-alike-clause-equation g c)
 
-pub returns : goal.returns
-returns g c =
+pub returns-clause-equation : goal.returns-clause-equation
+returns-clause-equation g c =
     let stands = g.B.Kind.Window.stands in
     let s : State = state_of g.B.RuleBook g.P.Policy g.B.Kind.Window c.args.self.now c.args.board.now in
     let rows = c.args.board.now.rows.now in
@@ -81,11 +78,7 @@ returns g c =
     let old = window_there g.B.Kind.Window.numbers s.table j c.window_at.result w c.window_at.ensures c.in_ok-old.ensures.value in
     let q : same_set (window s.table j) new ≡ false = ap (λ (x : List ℤ). same_set x new) (sym old) ∙ sym c.if-alike.ensures in
     let t : map stands (set rows j c.row.result) ≡ set s.table j new = map-set stands rows j c.row.result ∙ ap (set s.table j) c.row.ensures in
-    let equation = cut_changed j other long s (sym c.in_ok-check.ensures) (there_window s.table j (g.B.Kind.Window.numbers w) old (g.met.B.Kind.Window.kinds w).some) new (map stands (set rows j c.row.result)) (g.P.Policy.waiting c.put_readers.new.policy) (ap (λ (x : List ℤ). meet x other) (sym old) ∙ sym c.in-Some.ensures) (g.met.B.Kind.Window.kinds c.in-Some.new).some q t c.put_readers.ensures in
-    record {
-      equation = equation;
-      rows = tt;
-      store = refl;
-      lent = (refl, refl);
-      asked = asked g j c.args.window long s _ _ equation;
-    }
+    cut_changed j other long s (sym c.in_ok-check.ensures) (there_window s.table j (g.B.Kind.Window.numbers w) old (g.met.B.Kind.Window.kinds w).some) new (map stands (set rows j c.row.result)) (g.P.Policy.waiting c.put_readers.new.policy) (ap (λ (x : List ℤ). meet x other) (sym old) ∙ sym c.in-Some.ensures) (g.met.B.Kind.Window.kinds c.in-Some.new).some q t c.put_readers.ensures
+
+pub returns-clause-asked : goal.returns-clause-asked
+returns-clause-asked g c = asked g c.args.j c.args.window (length c.args.board.now.store.now) _ _ _ (returns-clause-equation g c)

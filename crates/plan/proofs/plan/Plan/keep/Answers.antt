@@ -24,8 +24,8 @@ asked g = keep_carries g.B.RuleBook.sets g.P.Policy.choice (proper_sets g.B.Kind
 pub returns-in_err-check-clause-asked : goal.returns-in_err-check-clause-asked
 returns-in_err-check-clause-asked g c = asked g _ (length c.args.board.now.store.now) _ _ _ (search rules)
 
-pub returns-in_err-place : goal.returns-in_err-place
-returns-in_err-place g c =
+pub returns-in_err-place-clause-equation : goal.returns-in_err-place-clause-equation
+returns-in_err-place-clause-equation g c =
     let s : State = state_of g.B.RuleBook g.P.Policy g.B.Kind.Window c.args.self.now c.args.board.now in
     let m = c.args.mark.number in
     let long = length c.args.board.now.store.now in
@@ -33,11 +33,13 @@ returns-in_err-place g c =
     let p = err_from_is_err_and c.from_residual-in_err-place.result c.from_residual-in_err-place.ensures.1 in
     let q = none_or c.find.result Ended c.in_err-place.field-0.0 c.in_err-place.ensures.value in
     let ended = has_ended m s (found_ended g.B.Kind.Window.stands marks s.windows c.args.board.now.store.now m (length marks) (sym c.find.ensures ∙ q.0)) in
-    let equation : keep_call m long s ≡ record { answer = c.from_residual-in_err-place.result; after = s } = rw (p.1, p.2, q.1) (call_refused (or_else (refused long s) (open_refusal m s)) Ended s (record { answer = Ok Done; after = keeping m s }) (asked_next (refused long s) (open_refusal m s) (Some Ended) c.in_ok-check.ensures ended)) in
-    record { equation = equation; asked = asked g m long s _ s equation }
+    rw (p.1, p.2, q.1) (call_refused (or_else (refused long s) (open_refusal m s)) Ended s (record { answer = Ok Done; after = keeping m s }) (asked_next (refused long s) (open_refusal m s) (Some Ended) c.in_ok-check.ensures ended))
 
-pub returns : goal.returns
-returns g c =
+pub returns-in_err-place-clause-asked : goal.returns-in_err-place-clause-asked
+returns-in_err-place-clause-asked g c = asked g _ (length c.args.board.now.store.now) _ c.from_residual-in_err-place.result _ (returns-in_err-place-clause-equation g c)
+
+pub returns-clause-equation : goal.returns-clause-equation
+returns-clause-equation g c =
     let stands = g.B.Kind.Window.stands in
     let s : State = state_of g.B.RuleBook g.P.Policy g.B.Kind.Window c.args.self.now c.args.board.now in
     let m = c.args.mark.number in
@@ -49,5 +51,7 @@ returns g c =
     let there = still_open m s (found_open stands marks s.windows store m (length marks) k f) in
     let o = or_else (refused long s) (open_refusal m s) in
     let closed = closed_copies stands marks (items c.truncate.new.self) s.windows store k (omega (arith, below)) c.truncate.ensures in
-    let equation = call_done o s (record { answer = Ok Done; after = keeping m s }) (record { answer = Ok Done; after = with_marks s _ }) (asked_next (refused long s) (open_refusal m s) None c.in_ok-check.ensures there) (ap {B = Call Closing} (λ (t : State). record { answer = Ok Done; after = t }) (keep_found stands marks s.windows store m s (length marks) k f ∙ ap (with_marks s) (sym closed))) in
-    record { equation = equation; asked = asked g m long s _ _ equation }
+    call_done o s (record { answer = Ok Done; after = keeping m s }) (record { answer = Ok Done; after = with_marks s _ }) (asked_next (refused long s) (open_refusal m s) None c.in_ok-check.ensures there) (ap {B = Call Closing} (λ (t : State). record { answer = Ok Done; after = t }) (keep_found stands marks s.windows store m s (length marks) k f ∙ ap (with_marks s) (sym closed)))
+
+pub returns-clause-asked : goal.returns-clause-asked
+returns-clause-asked g c = asked g _ (length c.args.board.now.store.now) _ (Ok Done) _ (returns-clause-equation g c)

@@ -1,4 +1,4 @@
-use Rattle.std.proofs.Common.{◌≡◌, ℕ, leb, map, length, Some, None, Option, sym, refl, ap, ◌∙◌, subst}
+use Rattle.std.proofs.Common.{◌≡◌, ℕ, leb, map, length, None, Option, sym, refl, ap, ◌∙◌, subst}
 use Rattle.std.proofs.lemmas.List.{length-map}
 use Rattle.rulebook.specs.Answers.{reach_of}
 use Rattle.plan.specs.States.{State}
@@ -11,23 +11,6 @@ use Rattle.plan.proofs.BoardLaws.{fine, all_kinds}
 use Rattle.plan.proofs.MarkLaws.{same_state}
 use Rattle.plan.proofs.CallLaws.{reached_holds}
 use Rattle.plan.proofs.plan.Plan.make.Goals as goal
-
-pub returns-in-Err : goal.returns-in-Err
-returns-in-Err g c =
-    let stands = g.B.Kind.Window.stands in
-    let rules = g.B.RuleBook.rules c.args.book in
-    let w = g.P.Policy.waiting c.args.policy in
-    let store = c.args.board.now.store.now in
-    let T = map stands c.args.board.now.rows.now in
-    let status = c.new-status.result in
-    let e : make_refused rules T (length store) ≡ Some c.in-Err.refused = sym (c.in-Err.ensures ∙ ap (λ (n : ℕ). board_refusal T (length store) (leb n (length T))) c.reach.ensures) in
-    let same = same_state {q = rules} {v = w} {T = T} refl refl c.new-status.ensures.possible refl c.new-status.ensures.windows (ap (λ ms. copies stands ms status.windows store (length ms)) c.new-status.ensures.marks) c.new-status.ensures.handed in
-    record {
-      equation = ap (λ (o : Option PlanRefusal). made_unless o rules w T) e ∙ ap {B = Made} (λ (t : State). record { refusal = Some c.in-Err.refused; after = t }) (sym same);
-      book = refl;
-      policy = refl;
-      asked = tt;
-    }
 
 pub returns : goal.returns
 returns g c =

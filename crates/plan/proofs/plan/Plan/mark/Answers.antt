@@ -12,7 +12,7 @@ use Rattle.plan.specs.declared.answer.PlanRefusal.TheVariants.{Marks, Handed}
 use Rattle.plan.specs.declared.plan.marks.Mark.{Mark}
 use Rattle.plan.proofs.ProperSets.{proper_sets}
 use Rattle.plan.proofs.BoardLaws.{fine_rows}
-use Rattle.plan.proofs.MarkLaws.{copies_long, pushed_mark, marked_copies, same_state, may_mark, too_many, all_handed, room_at, small_place}
+use Rattle.plan.proofs.MarkLaws.{copies_long, pushed_mark, marked_copies, same_state, may_mark, too_many, all_handed, room_at}
 use Rattle.plan.proofs.CallExits.{asked_next, call_refused, call_done}
 use Rattle.plan.proofs.Theorem.{mark_carries}
 use Rattle.plan.proofs.plan.Plan.mark.Given as given
@@ -45,13 +45,6 @@ returns-then-number-ge1000000000-clause-equation g c =
 
 pub returns-then-number-ge1000000000-clause-asked : goal.returns-then-number-ge1000000000-clause-asked
 returns-then-number-ge1000000000-clause-asked g c = asked g (length c.args.board.now.store.now) _ _ _ (returns-then-number-ge1000000000-clause-equation g c)
-
-pub overflow_mul-place : goal.overflow_mul-place
-overflow_mul-place g c =
-    let status = c.args.self.now.status in
-    let f = fine_rows g.B.Kind.Window.stands c.args.board.now.rows.now (length c.args.board.now.store.now) status.windows c.in_ok-check.ensures in
-    let few : status.windows ≤ 64 = omega (arith, f.0, f.1) in
-    omega (arith, small_place c.len-place.result status.windows c.if-place-ge16.false few)
 
 pub save-requires : goal.save-requires
 save-requires g c =

@@ -1,4 +1,4 @@
-use Rattle.std.proofs.Common.{length, eqb, Some, None, Ok, Option, sym, ap, ◌∙◌}
+use Rattle.std.proofs.Common.{length, eqb, Some, Option, sym, ap}
 use Rattle.std.proofs.lemmas.Result.{err_from_is_err_and}
 use Rattle.rulebook.specs.Tables.{window}
 use Rattle.plan.specs.States.{State}
@@ -6,10 +6,10 @@ use Rattle.plan.specs.Refusals.{refused, or_else, window_refusal, possible_refus
 use Rattle.plan.specs.Theorem.{ShowsAll}
 use Rattle.plan.specs.Plans.{state_of}
 use Rattle.plan.specs.declared.answer.PlanRefusal.{PlanRefusal}
-use Rattle.plan.specs.declared.answer.PlanRefusal.TheVariants.{Window, Impossible}
+use Rattle.plan.specs.declared.answer.PlanRefusal.TheVariants.{Window}
 use Rattle.plan.proofs.ProperSets.{proper_sets}
 use Rattle.plan.proofs.BoardLaws.{fine}
-use Rattle.plan.proofs.CallExits.{window_there, window_gone, asked_first, asked_next, in_table, there_window, no_window, still_possible, no_more}
+use Rattle.plan.proofs.CallExits.{window_gone, asked_first, asked_next, no_window}
 use Rattle.plan.proofs.Theorem.{shows_all}
 use Rattle.plan.proofs.plan.Plan.show.Given as given
 use Rattle.plan.proofs.plan.Plan.show.Goals as goal
@@ -34,29 +34,8 @@ returns-in_err-window-clause-equation g c =
 pub returns-in_err-window-clause-asked : goal.returns-in_err-window-clause-asked
 returns-in_err-window-clause-asked g c = asked g _
 
-pub returns-then-self-clause-equation : goal.returns-then-self-clause-equation
-returns-then-self-clause-equation g c =
-    let s : State = state_of g.B.RuleBook g.P.Policy g.B.Kind.Window c.args.self.now c.args.board.now in
-    let j = c.args.j in
-    let long = length c.args.board.now.store.now in
-    let w = c.in_ok-window.window in
-    let l = there_window s.table j (g.B.Kind.Window.numbers w) (window_there g.B.Kind.Window.numbers s.table j c.window_at.result w c.window_at.ensures c.in_ok-window.ensures.value) (g.met.B.Kind.Window.kinds w).some in
-    let next = asked_next (window_refusal j s.table) (possible_refusal s) (Some Impossible) (sym (in_table j s.table l)) (no_more s c.if-self.true) in
-    ap (λ (o : Option PlanRefusal). shown o (window s.table j)) (asked_next (refused long s) (or_else (window_refusal j s.table) (possible_refusal s)) (Some Impossible) c.in_ok-check.ensures next)
-
 pub returns-then-self-clause-asked : goal.returns-then-self-clause-asked
 returns-then-self-clause-asked g c = asked g _
-
-pub returns-clause-equation : goal.returns-clause-equation
-returns-clause-equation g c =
-    let s : State = state_of g.B.RuleBook g.P.Policy g.B.Kind.Window c.args.self.now c.args.board.now in
-    let j = c.args.j in
-    let long = length c.args.board.now.store.now in
-    let w = c.in_ok-window.window in
-    let e = window_there g.B.Kind.Window.numbers s.table j c.window_at.result w c.window_at.ensures c.in_ok-window.ensures.value in
-    let l = there_window s.table j (g.B.Kind.Window.numbers w) e (g.met.B.Kind.Window.kinds w).some in
-    let next = asked_next (window_refusal j s.table) (possible_refusal s) None (sym (in_table j s.table l)) (still_possible s c.if-self.false) in
-    ap (λ (o : Option PlanRefusal). shown o (window s.table j)) (asked_next (refused long s) (or_else (window_refusal j s.table) (possible_refusal s)) None c.in_ok-check.ensures next) ∙ ap Ok (sym e)
 
 pub returns-clause-asked : goal.returns-clause-asked
 returns-clause-asked g c = asked g _

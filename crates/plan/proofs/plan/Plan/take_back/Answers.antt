@@ -40,9 +40,6 @@ returns-in_err-k-clause-equation g c =
 pub returns-in_err-k-clause-asked : goal.returns-in_err-k-clause-asked
 returns-in_err-k-clause-asked g c = asked g _ (length c.args.board.now.store.now) _ _ _ (returns-in_err-k-clause-equation g c)
 
-pub returns-in_err-k-clause-rows : goal.returns-in_err-k-clause-rows
-returns-in_err-k-clause-rows g c = let p = err_from_is_err_and c.from_residual-in_err-k.result c.from_residual-in_err-k.ensures.1 in rw p.1 refl
-
 pub offset_bounds-as_slice-k : goal.offset_bounds-as_slice-k
 offset_bounds-as_slice-k g c = let p = placed c.args.self.now.status.marks c.args.mark.number c.in_ok-k.k c.find.result c.find.ensures c.in_ok-k.ensures.value in omega arith
 
@@ -65,8 +62,8 @@ load-requires g c =
     let f = fine_rows g.B.Kind.Window.stands rows (length c.args.board.now.store.now) status.windows c.in_ok-check.ensures in
     room_at c.in_ok-k.k status.windows (length c.args.board.now.store.now) (length rows) f.0 p.2 f.2
 
-pub returns : goal.returns
-returns g c =
+pub returns-clause-equation : goal.returns-clause-equation
+returns-clause-equation g c =
     let stands = g.B.Kind.Window.stands in
     let s : State = state_of g.B.RuleBook g.P.Policy g.B.Kind.Window c.args.self.now c.args.board.now in
     let m = c.args.mark.number in
@@ -83,11 +80,7 @@ returns g c =
     let table = ap (map stands) (c.load.ensures.rows ∙ ap (λ (n : ℕ). take n (drop (k * s.windows) store)) fine.0) in
     let closed = closed_copies stands marks (items c.truncate.new.self) s.windows c.load.new.self.store.now k (omega (arith, below)) c.truncate.ensures ∙ ap (λ t. copies stands marks s.windows t k) c.load.ensures.store in
     let same = same_state rules waits (ap (λ ms. (get_or ms k no_slot).impossible) c.as_slice.ensures) table refl closed refl in
-    let equation = call_done o s (record { answer = Ok Done; after = taking_back m s }) (record { answer = Ok Done; after = _ }) (asked_next (refused long s) (open_refusal m s) None c.in_ok-check.ensures there) (ap {B = Call Closing} (λ (t : State). record { answer = Ok Done; after = t }) (back_found stands marks s.windows store m s (length marks) k f ∙ sym same)) in
-    record {
-      equation = equation;
-      rows = tt;
-      store = c.load.ensures.store;
-      lent = c.load.ensures.lent;
-      asked = asked g m long s _ _ equation;
-    }
+    call_done o s (record { answer = Ok Done; after = taking_back m s }) (record { answer = Ok Done; after = _ }) (asked_next (refused long s) (open_refusal m s) None c.in_ok-check.ensures there) (ap {B = Call Closing} (λ (t : State). record { answer = Ok Done; after = t }) (back_found stands marks s.windows store m s (length marks) k f ∙ sym same))
+
+pub returns-clause-asked : goal.returns-clause-asked
+returns-clause-asked g c = asked g _ (length c.args.board.now.store.now) _ (Ok Done) _ (returns-clause-equation g c)
