@@ -1,8 +1,9 @@
 -- Masks moved by a distance.
-use Rattle.std.proofs.Common.{◌≡◌, ℕ, suc, ◌+◌, ◌-◌, ◌*◌, ◌/◌, ◌%◌, ◌^◌, ◌<◌, ◌≤◌, Bool, true, false, eqb, ◌⊎◌, [], ℤ, pos, negsuc, ◌+ℤ◌, ◌-ℤ◌, neg_ℤ, nat_abs, ◌≤ℤ◌, ◌<ℤ◌, Option, sym, refl, ap, ◌∙◌, ap₂, inl, inr, arith, pow_mono, w32, to_z, of_z, MatchOption}
-use native.Mathlib.Nat.{div-eq_of_lt}
+use Rattle.std.proofs.Common.{◌≡◌, ℕ, suc, ◌+◌, ◌-◌, ◌*◌, ◌/◌, ◌%◌, ◌^◌, ◌<◌, ◌≤◌, true, false, eqb, ◌⊎◌, [], ℤ, pos, negsuc, ◌+ℤ◌, ◌-ℤ◌, neg_ℤ, nat_abs, ◌≤ℤ◌, ◌<ℤ◌, Option, sym, ap, ◌∙◌, ap₂, inl, inr, arith, w32, to_z, of_z, MatchOption}
 use lib.Bits.{bit_and}
 use Rattle.std.proofs.lemmas.Nat.{and_le_l}
+use Rattle.std.proofs.lemmas.Nat.Bits.{bit_at_above}
+use Rattle.std.proofs.lemmas.Bool.{false_from_ne_true}
 use Rattle.std.proofs.lemmas.Int.{ints}
 use Rattle.windows.specs.Sets.{has, meet}
 use Rattle.windows.specs.SetLaws.{between_is, kept_same}
@@ -18,19 +19,11 @@ use Rattle.steps.specs.Steps.{in_reach, partnered}
 
 -- a number outside 0..63 is in no mask
 outside : (m : ℕ) (v : ℤ) → (v <ℤ pos 0) ⊎ (pos 64 ≤ℤ v) → has (mask_numbers m) v ≡ false
-outside m v o = go (has (mask_numbers m) v) refl o
-  where
-    go : (t : Bool) → has (mask_numbers m) v ≡ t → (v <ℤ pos 0) ⊎ (pos 64 ≤ℤ v) → t ≡ false
-    go false e o = refl
-    go true e (inl l) = let b = mask_in m v e in absurd (omega (arith, ints))
-    go true e (inr l) = let b = mask_in m v e in absurd (omega (arith, ints))
+outside m v o = false_from_ne_true (has (mask_numbers m) v) (λ e. let b = mask_in m v e in elim o [ inl l ↦ omega (arith, ints) | inr l ↦ omega (arith, ints) ])
 
 -- no bit past the sixty-fourth is set
 past : (m j : ℕ) → m < 2 ^ 64 → 64 ≤ j → bit m j ≡ false
-past m j h l = ap (λ x. eqb (x % 2) 1) (div-eq_of_lt (below m (2 ^ 64) (2 ^ j) h (pow_mono l)))
-  where
-    below : (a b c : ℕ) → a < b → b ≤ c → a < c
-    below a b c x y = omega arith
+past m j h l = ap (λ x. eqb x 1) (bit_at_above m 64 j h l)
 
 down : (m d j : ℕ) → m < 2 ^ 64 → j < 64 → has (mask_numbers (m / 2 ^ d)) (pos j) ≡ has (mask_numbers m) (pos j +ℤ pos d)
 down m d j h l = has_bit (m / 2 ^ d) j l ∙ bit_down m d j ∙ go (le_or_lt 64 (d + j))

@@ -12,7 +12,7 @@ use Rattle.rulebook.specs.Answers.{outcome}
 use Rattle.rulebook.specs.declared.answer.BookRefusal.{BookRefusal}
 use Rattle.rules.specs.Pointwise.{rule_of, Entry, written}
 use Rattle.pairs.specs.Pairs.{Apart, pair_reads, pair_asks}
-use Rattle.pairs.proofs.PairLaws.{PairLaws, pair_lawful, pair_within, entries_none, two_made, list_written}
+use Rattle.pairs.proofs.PairLaws.{PairLaws, pair_lawful, pair_within, none_given, two_given}
 use Rattle.steps.specs.Steps.{partnered, step_rule, in_reach, asks_distance, step_asks}
 
 -- any part of a set is a set of the kind
@@ -46,11 +46,7 @@ step_means k p q = record { only = λ P e. grind (arith, tests); all = λ P e. g
 
 -- ---- what a step is refused for
 pub accepted : (p q : ℕ) (k : ℤ) (n : ℕ) → pair_asks p q n ≡ None → in_reach k ≡ true → step_asks p q k n ≡ None
-accepted p q k n a r = go (pair_asks p q n) a
-  where
-    go : (o : Option BookRefusal) → o ≡ None → asks_distance o k ≡ None
-    go None e = rw r refl
-    go (Some f) e = e
+accepted p q k n a r = rw a (rw r refl)
 
 pub step_within : (p q : ℕ) (k : ℤ) (n j : ℕ) → step_asks p q k n ≡ None → pair_reads p q j ≡ true → j < n
 step_within p q k n j e h = pair_within p q n j (windows (pair_asks p q n) e) h
@@ -62,8 +58,8 @@ step_within p q k n j e h = pair_within p q n j (windows (pair_asks p q n) e) h
 -- ---- what the code writes
 -- where one of the two windows is missing, nothing is done
 pub none_written : (k : ℤ) (p q : ℕ) (T : Table) (es : List Entry) → Apart p q → (window T p ≡ []) ⊎ (window T q ≡ []) → es ≡ [] → written T es ≡ outcome (rule_of (step_rule k p q)) T
-none_written k p q T es a z e = list_written (λ s t. partnered k s t) (λ s t. partnered (neg_ℤ k) t s) (λ v w. eq_z w (v +ℤ k)) p q T es a.2 (e ∙ entries_none (λ s t. partnered k s t) (λ s t. partnered (neg_ℤ k) t s) p q T z)
+none_written k p q T es a z e = (none_given (λ s t. partnered k s t) (λ s t. partnered (neg_ℤ k) t s) (λ v w. eq_z w (v +ℤ k)) p q T a es z e).1
 
 -- the two new windows give the rule's outcome
 pub both_written : (k u n : ℤ) (p q : ℕ) (T : Table) (es : List Entry) (s t x y : List ℤ) → Apart p q → u ≡ k → n ≡ neg_ℤ k → s ≡ window T p → t ≡ window T q → 0 < length s → 0 < length t → x ≡ partnered u s t → y ≡ partnered n t s → es ≡ record { at = p; new = x } ∷ (record { at = q; new = y } ∷ []) → written T es ≡ outcome (rule_of (step_rule k p q)) T
-both_written k u n p q T es s t x y a eu en es' et ns nt ex ey e = list_written (λ s t. partnered k s t) (λ s t. partnered (neg_ℤ k) t s) (λ v w. eq_z w (v +ℤ k)) p q T es a.2 (e ∙ two_made (λ s t. partnered k s t) (λ s t. partnered (neg_ℤ k) t s) p q T x y s t es' et ns nt (ex ∙ ap (λ z. partnered z s t) eu) (ey ∙ ap (λ z. partnered z t s) en))
+both_written k u n p q T es s t x y a eu en es' et ns nt ex ey e = (two_given (λ s t. partnered k s t) (λ s t. partnered (neg_ℤ k) t s) (λ v w. eq_z w (v +ℤ k)) p q T a es x y s t e es' et ns nt (ex ∙ ap (λ z. partnered z s t) eu) (ey ∙ ap (λ z. partnered z t s) en)).1
