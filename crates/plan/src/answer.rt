@@ -1,6 +1,7 @@
 // What the calls of a plan answer.
 ghost use Rattle.std.specs.Prelude.{◌≡◌};
 ghost use Rattle.plan.specs.Numbers.{plan_number};
+ghost use Rattle.plan.specs.Settling.{is_impossible};
 ghost use Rattle.plan.specs.declared.answer.PlanRefusal.TheVariants.{Book};
 
 use rulebook::BookRefusal;
@@ -16,6 +17,15 @@ pub enum Verdict {
         rule: usize,
         window: usize,
     },
+}
+
+impl Verdict {
+    // Is the plan impossible after it?
+    pub fn is_impossible(&self) -> bool
+        ensures { result ≡ is_impossible self.now }
+    {
+        matches!(self, Verdict::Impossible { .. })
+    }
 }
 
 // What a cut did to its window.

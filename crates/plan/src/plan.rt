@@ -129,7 +129,7 @@ impl<B: RuleBook, P: Policy> Plan<B, P> {
             });
         }
         let verdict = run(&self.book, &mut self.policy, board.rows);
-        self.status.impossible = matches!(verdict, Verdict::Impossible { .. });
+        self.status.impossible = verdict.is_impossible();
         Ok(verdict)
     }
 

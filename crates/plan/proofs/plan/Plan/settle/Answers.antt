@@ -1,6 +1,5 @@
-use Rattle.std.proofs.Common.{◌≡◌, eqb, map, length, Ok, sym, refl, ap, ◌∙◌, arith, rules}
+use Rattle.std.proofs.Common.{eqb, map, length, Ok, sym, refl, arith, rules}
 use Rattle.plan.specs.States.{State, state}
-use Rattle.plan.specs.Settling.{is_impossible}
 use Rattle.plan.specs.Plans.{state_of}
 use Rattle.plan.specs.declared.answer.Verdict.TheVariants.{Impossible}
 use Rattle.plan.proofs.ProperSets.{ProperSets, proper_sets}
@@ -9,7 +8,6 @@ use Rattle.plan.proofs.CallExits.{settle_impossible, settle_ran}
 use Rattle.plan.proofs.Theorem.{settle-carries, settle-says, settle-bound, settle_agrees}
 use Rattle.plan.proofs.plan.Plan.settle.Given as given
 use Rattle.plan.proofs.plan.Plan.settle.Goals as goal
-use Rattle.plan.proofs.plan.Plan.settle.Goals.{in-Impossible, in_default}
 
 proper : (g : given.Over) → ProperSets g.B.RuleBook.sets
 proper g = proper_sets g.B.Kind.Window.kind g.met.B.Kind.Window.proper g.B.RuleBook.sets g.met.B.RuleBook.tied
@@ -56,9 +54,8 @@ returns g c =
     let long = length store in
     let s : State = state_of g.B.RuleBook g.P.Policy g.B.Kind.Window plan c.args.board.now in
     let r = c.run-verdict.result in
-    let flag : c.match-matches.self ≡ is_impossible r = elim c.match-matches.branch [ in-Impossible w ↦ w.self-is ∙ sym (ap is_impossible w.in-Impossible.is) | in_default w ↦ w.self-is ∙ sym (ap is_impossible w.in_default.is) ] in
-    let e = settle_ran choice long s.rules s.waiting s.impossible s.table s.windows s.marks s.handed r (g.P.Policy.waiting c.run-verdict.new.policy) c.match-matches.self (map stands c.run-verdict.new.rows) (sym c.in_ok-check.ensures) c.if-self.false c.run-verdict.ensures flag in
-    let t : State = state s.rules (g.P.Policy.waiting c.run-verdict.new.policy) c.match-matches.self (map stands c.run-verdict.new.rows) s.windows s.marks s.handed in
+    let e = settle_ran choice long s.rules s.waiting s.impossible s.table s.windows s.marks s.handed r (g.P.Policy.waiting c.run-verdict.new.policy) c.is_impossible-self.result (map stands c.run-verdict.new.rows) (sym c.in_ok-check.ensures) c.if-self.false c.run-verdict.ensures c.is_impossible-self.ensures in
+    let t : State = state s.rules (g.P.Policy.waiting c.run-verdict.new.policy) c.is_impossible-self.result (map stands c.run-verdict.new.rows) s.windows s.marks s.handed in
     let says = settle-says sets choice (proper g) chooses s long (Ok r) t e in
     record {
       equation = e;
