@@ -14,7 +14,7 @@ use Rattle.bounded.specs.Lists.{Pushed}
 use Rattle.bounded.specs.Lists as bounded
 use Rattle.rules.specs.Pointwise.{empty_at, judged, narrow_by, Pointwise, rule_of, Entry, has_entry, distinct, replaced, written}
 use Rattle.rules.specs.declared.new_windows.NewWindow.{NewWindow}
-use Rattle.rules.specs.Writing.{numbers_of, entry, listed, near, pushed, lowest_emptied, OthersKept}
+use Rattle.rules.specs.Writing.{numbers_of, entry, listed, near, lowest_emptied, OthersKept}
 use Rattle.rules.proofs.PointwiseLaws.{replaced_length, replaced_made, guard_yes, guard_no, le_or_lt}
 
 -- ---- the lowest emptied window
@@ -251,15 +251,6 @@ has_any_at numbers (x ∷ xs) j = ap (λ t. (x.at == j) || t) (has_any_at number
 pub lowest_more : (es : List Entry) (e : Entry) (rest : List Entry) (low low' all : ℕ) → es ≡ e ∷ rest → low' ≡ cond (not (filled e.new) && ltb e.at low) e.at low → lowest_emptied low es ≡ all → lowest_emptied low' rest ≡ all
 lowest_more es e rest low low' all q l i = ap (λ n. lowest_emptied n rest) l ∙ sym (ap (lowest_emptied low) q) ∙ i
 
-pub lower_yes : (f r : Bool) (at low low' : ℕ) → f ≡ not r → r ≡ true → at < low → low' ≡ at → low' ≡ cond (not f && ltb at low) at low
-lower_yes f r at low low' e h l q = grind (arith, nat_tests)
-
-pub lower_past : (f r : Bool) (at low low' : ℕ) → low ≤ at → low' ≡ low → low' ≡ cond (not f && ltb at low) at low
-lower_past f r at low low' l q = grind (arith, nat_tests)
-
-pub lower_no : (f r : Bool) (at low low' : ℕ) → f ≡ not r → r ≡ false → low' ≡ low → low' ≡ cond (not f && ltb at low) at low
-lower_no f r at low low' e h q = let x : f ≡ true = grind arith in rw x q
-
 -- ---- one more new window
 module _ {W : Type 0} (numbers : W → List ℤ) (xs ys : List (NewWindow W)) (x : NewWindow W) (a : Option ℕ) (q : bounded.pushed 8 xs x ≡ record { answer = a; after = ys }) where
   -- it stands at the end, if there was room
@@ -279,18 +270,6 @@ module _ {W : Type 0} (numbers : W → List ℤ) (xs ys : List (NewWindow W)) (x
       go : (ys ≡ xs ++ (x ∷ [])) ⊎ (ys ≡ xs) → (near (listed (λ _. []) ys) ≡ true) × (distinct (listed (λ _. []) ys) ≡ true)
       go (inl p) = rw (p, last) (near_push (listed (λ _. []) xs) (entry (λ _. []) x) n l, distinct_push (listed (λ _. []) xs) (entry (λ _. []) x) d (sym (has_any numbers xs x.at) ∙ e))
       go (inr p) = rw p (n, d)
-
-module _ {W : Type 0} (numbers : W → List ℤ) (xs : List (NewWindow W)) (x : NewWindow W) where
-  push_not : (ltb (length (listed numbers xs)) 8 && (ltb x.at 64 && not (has_entry (listed numbers xs) x.at))) ≡ false → listed numbers xs ≡ pushed (listed numbers xs) (entry numbers x)
-  push_not t = rw t refl
-
-  pub push_past : 64 ≤ x.at → listed numbers xs ≡ pushed (listed numbers xs) (entry numbers x)
-  push_past h =
-      let t : ltb x.at 64 ≡ false = grind (arith, nat_tests) in
-      push_not (let b = ltb (length (listed numbers xs)) 8 in grind arith)
-
-  pub push_again : has_entry (listed numbers xs) x.at ≡ true → listed numbers xs ≡ pushed (listed numbers xs) (entry numbers x)
-  push_again h = push_not (let b = ltb (length (listed numbers xs)) 8 in let c = ltb x.at 64 in grind arith)
 
 pub no_new : {W : Type 0} (numbers : W → List ℤ) (o : Option W) → ((w : W) → o ≡ Some w → ⊥) → numbers_of numbers o ≡ []
 no_new numbers None h = refl

@@ -1,7 +1,7 @@
-use Rattle.std.proofs.Common.{sym}
+use Rattle.std.proofs.Common.{sym, arith}
+use Rattle.std.proofs.lemmas.Bool.Decides.{nat_tests}
 use Rattle.bounded.specs.Lists.{items}
-use Rattle.rules.specs.declared.new_windows.NewWindow.{NewWindow}
-use Rattle.rules.proofs.WritingLaws.{push_kept, push_past, push_again}
+use Rattle.rules.proofs.WritingLaws.{push_kept}
 use Rattle.rules.proofs.new_windows.NewWindows.push.Goals as goal
 use Rattle.rules.proofs.new_windows.NewWindows.push.Goals.{else-at-lt64-via-then-at-lt64+else-not-has, else-at-lt64-via-else-at-lt64}
 
@@ -12,6 +12,4 @@ invariant_of-self g c =
 
 pub returns-else-at-lt64 : goal.returns-else-at-lt64
 returns-else-at-lt64 g c =
-    let xs = items c.args.self.now.list in
-    let x : NewWindow g.row.W.Denot = record { at = c.args.at; new = c.args.new } in
-    elim c.else-at-lt64.branch [ else-at-lt64-via-then-at-lt64+else-not-has w ↦ push_again g.W.Window.numbers xs x (sym w.if-not-has.ensures) | else-at-lt64-via-else-at-lt64 w ↦ push_past g.W.Window.numbers xs x w.if-at-lt64.false ]
+    elim c.else-at-lt64.branch [ else-at-lt64-via-then-at-lt64+else-not-has w ↦ let h = w.if-not-has.ensures in grind (arith, nat_tests) | else-at-lt64-via-else-at-lt64 w ↦ let h = w.if-at-lt64.false in grind (arith, nat_tests) ]

@@ -1,4 +1,4 @@
-use Rattle.std.proofs.Common.{◌≡◌, map, length, sym, refl, ap, ◌∙◌, arith}
+use Rattle.std.proofs.Common.{◌≡◌, map, length, sym, ap, ◌∙◌, arith}
 use Rattle.std.proofs.lemmas.List.{length-map}
 use Rattle.bounded.specs.Lists.{items}
 use Rattle.rules.specs.Writing.{lowest_emptied}
@@ -6,8 +6,8 @@ use Rattle.rules.specs.Made.{made}
 use Rattle.rules.proofs.WritingLaws.{tells_none, tells_lost, tells_all, distinct_any}
 use Rattle.rules.proofs.new_windows.NewWindows.write.Goals as goal
 
-pub returns-then-not-all_windows : goal.returns-then-not-all_windows
-returns-then-not-all_windows g c = record { equation = tells_none (map g.W.Window.stands c.args.rows.now) (made g.W.Window.numbers c.args.self.now) c.empty.result (sym c.if-not-all_windows.ensures) c.empty.ensures; rows = λ j d h. refl }
+pub returns-then-not-all_windows-clause-equation : goal.returns-then-not-all_windows-clause-equation
+returns-then-not-all_windows-clause-equation g c = tells_none (map g.W.Window.stands c.args.rows.now) (made g.W.Window.numbers c.args.self.now) c.empty.result (sym c.if-not-all_windows.ensures) c.empty.ensures
 
 pub returns-in-Some-clause-equation : goal.returns-in-Some-clause-equation
 returns-in-Some-clause-equation g c =
