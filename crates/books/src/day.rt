@@ -10,7 +10,8 @@ use rules::{Book, BookRule};
 use sums::{Relation, Sum};
 use windows::{Span, SpanRow};
 
-// A rule over spans that has passed its questions.
+// A rule over spans that has passed its questions. What it shares with the rules over sets is written once, in `Book` and in the
+// rules themselves; the two books know different rules.
 #[derive(Clone, Copy)]
 pub enum DayRule {
     Sum(Sum),

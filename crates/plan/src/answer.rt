@@ -36,7 +36,7 @@ pub enum Cutting {
     Impossible,
 }
 
-// What ending a mark answers.
+// What ending a mark answers: one case, which is stated by its name.
 #[derive(Clone, Copy, PartialEq, Debug)]
 pub enum Closing {
     Done,

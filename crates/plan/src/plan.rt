@@ -25,7 +25,8 @@ pub struct Plan<B: RuleBook, P: Policy> {
 }
 
 impl<B: RuleBook, P: Policy> Plan<B, P> {
-    // Makes a plan whose rules all wait. A refused plan is for 0 windows, and its book and policy are as they came.
+    // Makes a plan whose rules all wait. A refused making answers a plan too, so the refusal stands beside it: that plan is for 0
+    // windows, and its book and policy are as they came.
     pub fn make(book: B, mut policy: P, board: &Board<B::Kind>) -> (Plan<B, P>, Option<PlanRefusal>)
         ensures equation { let see = state_of B.RuleBook P.Policy B.Kind.Window in
             make_call (B.RuleBook.rules book) (P.Policy.waiting policy) (table B.Kind.Window.stands board.now) (length board.now.store.now)
@@ -122,6 +123,7 @@ impl<B: RuleBook, P: Policy> Plan<B, P> {
     {
         board.check(self.status.windows)?;
         if self.status.impossible {
+            // the stated answer of an impossible plan, which no rule and no window has caused
             return Ok(Verdict::Impossible {
                 steps: 0,
                 rule: 64,

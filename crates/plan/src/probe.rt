@@ -13,7 +13,7 @@ use crate::plan::Plan;
 use policies::Policy;
 use rulebook::RuleBook;
 
-// Cuts, and settles unless the cut is refused.
+// Cuts, and settles unless the cut is refused: a function of its own, so that `?` leaves no mark behind.
 fn cut_and_settle<B: RuleBook, P: Policy>(
     plan: &mut Plan<B, P>,
     board: &mut Board<B::Kind>,

@@ -2,7 +2,7 @@
 use Rattle.std.specs.Prelude.{◌≡◌, ℕ, suc, ◌+◌, ◌<◌, ◌≤◌, min, Bool, true, false, cond, not, ◌==◌, nat_lt, List, [], ◌∷◌, ◌++◌, length, Some, None, Option, refl, fold}
 use Rattle.std.specs.List.{reduce, list_any, position, position_or_len, remove as without}
 use Rattle.std.proofs.Common.{sym, ap, ◌∙◌, ⊎_elim, arith, append-nil, ap₂}
-use Rattle.std.proofs.lemmas.Bool.{eqb-true, eqb-false, eq-eqb, ne_eqb, le-ltb, lt-ltb, cases_Bool, cond-true, cond-false, cond_both, both_ways, ltb-false}
+use Rattle.std.proofs.lemmas.Bool.{eqb-true, eqb-false, eq-eqb, ne_eqb, le-ltb, lt-ltb, cases_Bool, cond-true, cond_both, both_ways, ltb-false}
 use Rattle.std.specs.Option.{is_some, unwrap_or}
 use Rattle.std.proofs.lemmas.List.{take_all, drop_all}
 use Rattle.bounded.specs.Lists.{Pushed, pushed, Removed, removed}

@@ -1,9 +1,9 @@
 -- Places in waiting lists: what stands at them, and what taking it out leaves.
-use Rattle.std.specs.Prelude.{◌≡◌, ℕ, zero, suc, ◌+◌, ◌<◌, ◌≤◌, min, Bool, true, false, cond, not, ◌&&◌, ◌||◌, ◌⊎◌, List, [], ◌∷◌, ◌++◌, length, take, drop, Some, ◌==◌, ◌≢◌, nat_lt, slice_index, refl}
-use Rattle.std.proofs.Common.{sym, ap, subst, ◌∙◌, inl, inr, ⊎_elim, suc-le-suc, arith}
-use Rattle.std.proofs.lemmas.Bool.{eqb-true, eqb-false, eq-eqb, ne_eqb, lt-ltb, ltb-true, or_left, or_right, or_cases, or_parts, or_from, and_parts, and_from, cases_Bool, both_ways, cases_eq, cond_both, cond-true, cond-false, not-true, not_from_false}
+use Rattle.std.specs.Prelude.{◌≡◌, ℕ, zero, suc, ◌+◌, ◌<◌, ◌≤◌, true, false, cond, List, [], ◌∷◌, ◌++◌, length, take, drop, Some, ◌==◌, ◌≢◌, nat_lt, slice_index, refl}
+use Rattle.std.proofs.Common.{sym, ap, subst, ◌∙◌, ⊎_elim, suc-le-suc, arith}
+use Rattle.std.proofs.lemmas.Bool.{eqb-true, eq-eqb, ne_eqb, lt-ltb, or_left, or_right, or_cases, or_from, both_ways, cond-true, cond-false}
 use Rattle.std.proofs.lemmas.List.{take_more, length-take-le}
-use Rattle.policies.specs.Waiting.{holds, distinct, put, remove, Chooses, first, lowest, Taken, taking}
+use Rattle.policies.specs.Waiting.{holds, distinct, put, remove, first, lowest, Taken, taking}
 use Rattle.policies.specs.WaitingLaws.{holds_end}
 use Rattle.policies.specs.DistinctLaws.{parts, lowest_chooses}
 
@@ -66,4 +66,3 @@ lowest_at (x ∷ w) k l h = is_lowest k x w l h
 -- the numbers that wait, as many as their count says
 pub waiting_long : (len : ℕ) (rules : List ℕ) → length rules ≡ 64 → len ≤ 64 → length (take len rules) ≡ len
 waiting_long len rules e l = length-take-le len rules (omega arith)
-

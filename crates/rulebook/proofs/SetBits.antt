@@ -2,11 +2,19 @@
 use Rattle.std.proofs.Common.{◌≡◌, ℕ, zero, suc, ◌*◌, ◌%◌, ◌^◌, ◌<◌, ◌≤◌, Bool, true, false, not, ◌||◌, eqb, ◌⊎◌, ap, ◌∙◌, inl, inr, sym, refl, arith, w64}
 use lib.Bits.{bit_or}
 use Rattle.std.specs.Int.{bit_at}
-use Rattle.std.proofs.lemmas.Nat.Bits.{bit_at-zero, bit_at-lt, bit_at_set_same, bit_at_set_other, same_from_bits_below}
+use Rattle.std.proofs.lemmas.Nat.Bits.{bit_at-zero, bit_at-lt, bit_at_or, bit_at-pow_same, bit_at-pow_other, bit_at_set_same, bit_at_set_other, same_from_bits_below}
 use Rattle.std.proofs.lemmas.Bool.{cases_eq, both_ways, or_parts, or_from, lt-ltb}
 use Rattle.std.proofs.lemmas.Bool.Decides.{nat_tests}
 use Rattle.rulebook.specs.Answers.{bit, member, any}
 use Rattle.rulebook.specs.declared.set.WindowSet.{WindowSet}
+
+-- one bit more
+pub bit_of_or : (m j k : ℕ) → bit (bit_or m (2 ^ j)) k ≡ (bit m k || eqb j k)
+bit_of_or m j k = go (cases_eq k j)
+  where
+    go : (k ≡ j) ⊎ (k ≡ j → ⊥) → bit (bit_or m (2 ^ j)) k ≡ (bit m k || eqb j k)
+    go (inl e) = rw e (let o = bit_at_or m (2 ^ j) j in let s = bit_at-pow_same j in let l = bit_at-lt m j in grind (arith, nat_tests))
+    go (inr n) = let o = bit_at_or m (2 ^ j) k in let s = bit_at-pow_other j k n in let l = bit_at-lt m k in grind (arith, nat_tests)
 
 pub bit_set : (m j k : ℕ) → j < 64 → bit (bit_or m ((1 * 2 ^ j) % 2 ^ 64)) k ≡ (bit m k || eqb j k)
 bit_set m j k h = go (cases_eq k j)

@@ -3,7 +3,8 @@ ghost use Rattle.std.specs.Prelude.{◌≡◌};
 
 use windows::Span;
 
-// All whole numbers from one to another, none where `to` is below `from`.
+// All whole numbers from one to another, none where `to` is below `from`. How far the ends may lie from 0 differs from step to
+// step, so it stands in contracts and not in the type.
 #[derive(Clone, Copy)]
 pub struct Ends {
     pub from: i64,

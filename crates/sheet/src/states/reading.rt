@@ -41,7 +41,7 @@ impl Open {
         })
     }
 
-    // The sheet's kind: 1 is for spans.
+    // The sheet's kind: 1 is for spans. Any other byte is out of place here, so there is no type of kinds to make of it.
     fn add_kind(&mut self, kind: u8, lent: &mut Lent) -> Result<(), Cause>
         ensures value { added (view self.old lent.old) (item.Kind kind) ≡ outcome result (view self.new lent.new) }
         ensures kept { OnErr result (view self.new lent.new ≡ view self.old lent.old) }

@@ -39,7 +39,8 @@ fn left_over(bound: i32, total: Ends, own: Ends) -> Ends
     }
 }
 
-// How far below 0 a number may lie: all the way, unless the sum is to equal its bound.
+// How far below 0 a number may lie: all the way, unless the sum is to equal its bound. A function of its own, since what the
+// match has found would be lost where its arms meet.
 fn depth(relation: Relation, low: i64, size: i64) -> i64
     requires { (Small 1000000000000 low) × (pos 1 ≤ℤ size) }
     ensures value { result ≡ (if is_exact relation then int_div_euclid (neg_ℤ low) size else pos 1000000) }
