@@ -53,13 +53,25 @@ impl Pair {
         self.p == j || self.q == j
     }
 
-    // The two windows; none where one is past the end of the rows or its row fails its check.
+    // The first window; none past the end of the rows, and where the row fails its check.
+    pub fn first<W: Window>(&self, rows: &[W::Row]) -> Option<W>
+        ensures { MatchOption result (window (map W.Window.stands rows.now) self.now.p ≡ []) (λ w. W.Window.numbers w ≡ window (map W.Window.stands rows.now) self.now.p) }
+    {
+        window_at::<W>(rows, self.p)
+    }
+
+    // The second window; none past the end of the rows, and where the row fails its check.
+    pub fn second<W: Window>(&self, rows: &[W::Row]) -> Option<W>
+        ensures { MatchOption result (window (map W.Window.stands rows.now) self.now.q ≡ []) (λ w. W.Window.numbers w ≡ window (map W.Window.stands rows.now) self.now.q) }
+    {
+        window_at::<W>(rows, self.q)
+    }
+
+    // The two windows; none where one is missing.
     pub fn windows<W: Window>(&self, rows: &[W::Row]) -> Option<(W, W)>
         ensures { let T = map W.Window.stands rows.now in MatchOption result ((window T self.now.p ≡ []) ⊎ (window T self.now.q ≡ [])) (λ w. (W.Window.numbers w.0 ≡ window T self.now.p) × (W.Window.numbers w.1 ≡ window T self.now.q)) }
     {
-        let first = window_at::<W>(rows, self.p)?;
-        let second = window_at::<W>(rows, self.q)?;
-        Some((first, second))
+        Some((self.first::<W>(rows)?, self.second::<W>(rows)?))
     }
 
     // New windows for the two.

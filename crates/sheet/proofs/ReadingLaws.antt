@@ -1,7 +1,12 @@
 -- One reading after the other.
 use Rattle.std.proofs.Common.{◌≡◌, ℕ, zero, suc, ◌-◌, ◌<◌, true, false, is_none, List, Option, Some, None, Ok, Err, Result, refl, ap, ◌∙◌, arith}
 use Rattle.sheet.specs.declared.fault.Fault.{Fault}
-use Rattle.sheet.specs.Reading.{Sheet, reading, readings, next}
+use Rattle.sheet.specs.declared.lent.Lent.{Lent}
+use Rattle.sheet.specs.Reading.{LendsOn, Sheet, reading, readings, next}
+
+-- what one call lends on and then another, both lend on
+pub lends_on : (a b c : Lent) → LendsOn a b → LendsOn b c → LendsOn a c
+lends_on a b c p q = (q.0 ∙ p.0, q.1 ∙ p.1, q.2 ∙ p.2)
 
 -- one reading more
 step_on : (n : ℕ) (bs : List ℕ) (s : Sheet) (a : Result (Option ℕ) Fault) → 0 < n → (reading bs s).answer ≡ a → readings n bs s ≡ next (reading bs s) a (readings (n - 1) bs (reading bs s).after)

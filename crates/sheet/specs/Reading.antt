@@ -1,5 +1,5 @@
 -- What opening, reading and finishing a sheet do.
-use Rattle.std.specs.Prelude.{ℕ, zero, suc, ◌+◌, Bool, false, cond, ◌&&◌, List, [], length, Some, None, Ok, Err, Option, Result, ◌==◌, nat_le, nat_lt, slice_set}
+use Rattle.std.specs.Prelude.{◌≡◌, ℕ, zero, suc, ◌+◌, Bool, false, cond, ◌&&◌, List, [], length, Some, None, Ok, Err, Option, Result, ◌==◌, nat_le, nat_lt, slice_set}
 use Rattle.windows.specs.Rows.{span_stands}
 use Rattle.windows.specs.declared.span.SpanRow.{SpanRow}
 use Rattle.rulebook.specs.Rules.{Rule}
@@ -33,6 +33,10 @@ pub record Held : Type 0 where
 
 abbrev pub held : Lent → Held
 held l = record { rules = day_rules l.book.now; rows = l.rows.now; store = l.store.now }
+
+-- the same book, rows and store are lent as before
+abbrev pub LendsOn : Lent → Lent → Type 0
+LendsOn old new = (new.book.ghost_name ≡ old.book.ghost_name) × (new.rows.ghost_name ≡ old.rows.ghost_name) × (new.store.ghost_name ≡ old.store.ghost_name)
 
 -- are there places for 64 windows, and 16 times as many in the store
 abbrev pub roomy : Held → Bool

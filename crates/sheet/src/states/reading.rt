@@ -1,6 +1,6 @@
 // Opening, reading and finishing a sheet.
 ghost use Rattle.std.specs.Prelude.{◌≡◌, ◌<◌, length, OnErr};
-ghost use Rattle.sheet.specs.Reading.{held, opened, view, added, took, outcome, reading, readings, quiet, finished, whole};
+ghost use Rattle.sheet.specs.Reading.{LendsOn, held, opened, view, added, took, outcome, reading, readings, quiet, finished, whole};
 ghost use Rattle.sheet.specs.declared.item.Item.TheVariants as item;
 
 use super::{Open, Read, is_roomy};
@@ -19,7 +19,8 @@ const MOST_READINGS: usize = 15_361;
 impl Open {
     // Opens a sheet, and empties its book.
     pub fn open(bytes: &[u8], lent: &mut Lent) -> Result<Open, Fault>
-        ensures { opened bytes.now (held lent.old) ≡ record { answer = result; after = held lent.new } }
+        ensures equation { opened bytes.now (held lent.old) ≡ record { answer = result; after = held lent.new } }
+        ensures lent { LendsOn lent.old lent.new }
     {
         if bytes.len() > 61_440 {
             return Err(Fault {
@@ -45,6 +46,7 @@ impl Open {
     fn add_kind(&mut self, kind: u8, lent: &mut Lent) -> Result<(), Cause>
         ensures value { added (view self.old lent.old) (item.Kind kind) ≡ outcome result (view self.new lent.new) }
         ensures kept { OnErr result (view self.new lent.new ≡ view self.old lent.old) }
+        ensures lent { LendsOn lent.old lent.new }
     {
         if kind != 1 {
             return Err(SheetRefusal::Place.into());
@@ -58,6 +60,7 @@ impl Open {
         requires { self.old.windows < length lent.old.rows.now }
         ensures value { added (view self.old lent.old) (item.Window row) ≡ outcome result (view self.new lent.new) }
         ensures kept { OnErr result (view self.new lent.new ≡ view self.old lent.old) }
+        ensures lent { LendsOn lent.old lent.new }
     {
         let Some(_window) = Span::from_row(row) else {
             return Err(BookRefusal::Row.into());
@@ -71,6 +74,7 @@ impl Open {
     fn add_rule(&mut self, rule: DayPost, lent: &mut Lent) -> Result<(), Cause>
         ensures value { added (view self.old lent.old) (item.Rule rule) ≡ outcome result (view self.new lent.new) }
         ensures kept { OnErr result (view self.new lent.new ≡ view self.old lent.old) }
+        ensures lent { LendsOn lent.old lent.new }
     {
         lent.book.post(rule, self.windows)?;
         self.stage = Stage::Rules;
@@ -81,6 +85,7 @@ impl Open {
     fn take(&mut self, item: Item, lent: &mut Lent) -> Result<(), Cause>
         ensures value { took (view self.old lent.old) item ≡ outcome result (view self.new lent.new) }
         ensures kept { OnErr result (view self.new lent.new ≡ view self.old lent.old) }
+        ensures lent { LendsOn lent.old lent.new }
     {
         if matches!(item, Item::Window(_)) && self.windows >= 64 {
             return Err(PlanRefusal::Windows.into());
@@ -98,7 +103,8 @@ impl Open {
 
     // Takes one record and answers its kind, or none where no byte is left. A refused reading takes nothing.
     pub fn read(&mut self, bytes: &[u8], lent: &mut Lent) -> Result<Option<u16>, Fault>
-        ensures { reading bytes.now (view self.old lent.old) ≡ record { answer = result; after = view self.new lent.new } }
+        ensures equation { reading bytes.now (view self.old lent.old) ≡ record { answer = result; after = view self.new lent.new } }
+        ensures lent { LendsOn lent.old lent.new }
     {
         let at = self.at;
         let found = record_at(bytes, at, self.stage).map_err(|refusal| Fault {
@@ -121,6 +127,7 @@ impl Open {
     pub fn read_all(&mut self, bytes: &[u8], lent: &mut Lent) -> Result<(), Fault>
         ensures answer { result ≡ quiet (readings 15361 bytes.now (view self.old lent.old)).answer }
         ensures after { view self.new lent.new ≡ (readings 15361 bytes.now (view self.old lent.old)).after }
+        ensures lent { LendsOn lent.old lent.new }
     {
         for turn in 0..MOST_READINGS {
             if self.read(bytes, lent)?.is_none() {
@@ -155,7 +162,8 @@ impl Open {
 impl Read {
     // Opens, reads and finishes a sheet.
     pub fn whole(bytes: &[u8], lent: &mut Lent) -> Result<Read, Fault>
-        ensures { whole bytes.now (held lent.old) ≡ record { answer = result; after = held lent.new } }
+        ensures equation { whole bytes.now (held lent.old) ≡ record { answer = result; after = held lent.new } }
+        ensures lent { LendsOn lent.old lent.new }
     {
         let mut open = Open::open(bytes, lent)?;
         open.read_all(bytes, lent)?;

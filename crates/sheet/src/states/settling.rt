@@ -2,7 +2,7 @@
 ghost use Rattle.std.specs.Prelude.{◌≡◌};
 ghost use Rattle.books.specs.DayBooks.{day_rules};
 ghost use Rattle.plan.specs.Views.{Untouched};
-ghost use Rattle.sheet.specs.Reading.{held};
+ghost use Rattle.sheet.specs.Reading.{LendsOn, held};
 ghost use Rattle.sheet.specs.Settled.{settled, left, printed_sheet};
 
 use super::{Read, is_roomy};
@@ -18,6 +18,7 @@ impl Read {
     pub fn settle(&self, lent: &mut Lent) -> Result<Verdict, Fault>
         ensures equation { settled self.now (held lent.old) ≡ left self.now result (day_rules lent.new.book.now) lent.new.rows.now lent.new.store.now }
         ensures rows { Untouched result lent.old.rows.now lent.new.rows.now }
+        ensures lent { LendsOn lent.old lent.new }
     {
         let at = self.at;
         if !is_roomy(lent) {
