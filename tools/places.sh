@@ -33,7 +33,7 @@ if point 4; then
 fi
 if point 5; then
   show 5a "a fact of an argument that a requires states" "grep -rnE 'requires .*(Stands|Apart|Fit |bound_fits|in_reach|Weighs|Small)' crates/*/src"
-  show 5b "clauses that spell out the view of a plan" "grep -rn 'state_of B.RuleBook.rules' crates/*/src"
+  show 5b "clauses that spell out the view of a plan" "grep -rn 'state_of B.RuleBook' crates/*/src"
   show 5c "clauses that spell out how a list is kept (slots and a count)" "grep -rnE '(take|slot_rules|listed)[^;{}]*\.(len|items|slots|depth)\b' crates/*/src | grep -E 'ensures|requires'"
   show 5d "functions with five or more parameters" "awk '/fn [a-z_]+/{sig=\$0; while(sig!~/\) *(->|\{|\$)/){if((getline l)<=0)break; sig=sig l} s=sig; n=gsub(/[a-z_]+: /,\"&\",s); if(sig~/self/)n++; if(n>=5)print FILENAME\":\"FNR\": \"substr(sig,1,100)}' \$(find crates/*/src -name '*.rt')"
 fi

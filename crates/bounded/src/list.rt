@@ -1,9 +1,10 @@
 // A list of at most N items, in place.
-ghost use Rattle.std.specs.Prelude.{◌≡◌, ◌-◌, ◌≤◌, ◌<◌, ⊤, [], ◌++◌, length, take, remove};
+ghost use Rattle.std.specs.Prelude.{◌≡◌, ◌-◌, ◌≤◌, ◌<◌, ⊤, [], length, take, remove};
 
 use std::alloc::AllocError;
 
-// The items are the first `len` slots; the others hold what was there before.
+// The items are the first `len` slots; the others hold what was there before. A type of its own, since a book is handed on by copy
+// and the library's `ArrayVec` is not `Copy`.
 pub struct BoundedList<T, const N: usize> {
     slots: [T; N],
     len: usize,

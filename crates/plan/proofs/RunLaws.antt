@@ -58,10 +58,6 @@ pub record Running (sets : List ℤ → Type 0) (choice : List ℕ → ℕ) (rul
   pub spent : steps + (length rules * sizes T + length w) ≤ length rules * sizes T₀ + length w₀
   pub rest : (z : ℕ) (cs : List Copy) (h : ℕ) → run choice (length rules * sizes T₀ + length w₀) 0 (state rules w₀ false T₀ z cs h) ≡ run choice (length rules * sizes T₀ + length w₀ - steps) steps (state rules w false T z cs h)
 
-pub started : (sets : List ℤ → Type 0) (choice : List ℕ → ℕ) (rules : List Rule) (w : List ℕ) (T : Table) → Every sets T → Running sets choice rules w T 0 w T
-started sets choice rules w T k =
-    record { kinds = k; spent = omega arith; rest = λ z cs h. ap (λ (n : ℕ). run choice n 0 (state rules w false T z cs h)) (omega arith) }
-
 module _ (sets : List ℤ → Type 0) (choice : List ℕ → ℕ) (proper : ProperSets sets) (chooses : Chooses choice) (rules : List Rule) (few : length rules ≤ 64) (lawful : (i : ℕ) → i < length rules → Lawful sets (get_or rules i missing)) where
   is_ready : (w : List ℕ) (T : Table) → Every sets T → Ready sets (state rules w false T 0 [] 0)
   is_ready w T k = record { few = few; lawful = lawful_all sets rules lawful; kinds = k }

@@ -24,6 +24,8 @@ pub struct Plan<B: RuleBook, P: Policy> {
     status: Status,
 }
 
+// Each clause of the calls names the state of a plan and its board anew, as `see`: no name can be bound over several clauses, and
+// no `Model` can give it, since the board is lent to each call.
 impl<B: RuleBook, P: Policy> Plan<B, P> {
     // Makes a plan whose rules all wait. A refused making answers a plan too, so the refusal stands beside it: that plan is for 0
     // windows, and its book and policy are as they came.

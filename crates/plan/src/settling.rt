@@ -19,7 +19,7 @@ fn touches<B: RuleBook>(book: &B, i: usize, changes: WindowSet, windows: usize) 
     (0..windows).any(|j| changes.has(j) && book.reads(i, j))
 }
 
-// Puts, rising, every rule below n that passes the test.
+// Puts, rising, every rule below n that passes the test: over numbers of rules, which no list holds.
 fn put_where<P: Policy, F: Fn(usize) -> bool>(policy: &mut P, n: usize, test: F)
     requires { F.IsAlwaysCallable test }
     ensures { (f : ℕ → Bool) → Tests (F.post test) n f → P.Policy.waiting policy.new ≡ puts f n (P.Policy.waiting policy.old) }

@@ -54,7 +54,7 @@ fn front(rest: &[u8]) -> Result<Option<(u16, &[u8])>, SheetRefusal>
     }
 }
 
-// The record of a known kind, of the right length and in its place.
+// The record of a known kind, of the right length and in its place: here a number becomes a kind.
 fn sort(stage: Stage, kind: u16, payload: &[u8]) -> Result<Record<'_>, SheetRefusal>
     ensures { plainly result ≡ sorted stage kind payload.now }
 {

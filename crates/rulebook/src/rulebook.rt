@@ -40,8 +40,8 @@ pub trait RuleBook {
     fn reads(&self, i: usize, j: usize) -> bool
         ensures { result ≡ (get_or (rules self.now) i missing).reads j };
 
-    // Narrows the rows by rule i and answers which windows changed, or the lowest one that would have been emptied. A missing rule, one that reads beyond the rows, and rows of which one fails its check
-    // change nothing.
+    // Narrows the rows by rule i and answers which windows changed, or the lowest one that would have been emptied. A missing
+    // rule, one that reads beyond the rows, and rows of which one fails its check change nothing.
     fn narrow(
         &self,
         i: usize,

@@ -1,5 +1,5 @@
 // A book as a list of at most 64 rules: a rulebook, proved once for all types of rule.
-ghost use Rattle.std.specs.Prelude.{◌≡◌, ◌≤◌, ⊤, [], length, get_or, slice_index_or};
+ghost use Rattle.std.specs.Prelude.{◌≡◌, ⊤, [], length, slice_index_or};
 ghost use Rattle.windows.specs.Kinds.{Of};
 ghost use Rattle.rulebook.specs.Rules.{missing};
 ghost use Rattle.rulebook.specs.Answers.{any, reads_at};
@@ -100,6 +100,7 @@ impl<R: BookRule> RuleBook for Book<R> {
     }
 
     fn reach(&self) -> usize {
+        // over the numbers of windows, which no list holds
         let mut reach = 0;
         for j in 0..64 {
             if self.some_reads(j) {

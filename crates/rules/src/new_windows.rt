@@ -1,6 +1,6 @@
 // The new windows that a rule makes, and the one way in which they are written into the rows.
-ghost use Rattle.std.specs.Prelude.{◌≡◌, ℕ, ◌==◌, ◌<◌, true, false, not, [], map, length, slice_set, Some, None, MatchOption};
-ghost use Rattle.rulebook.specs.Tables.{differs, all_filled};
+ghost use Rattle.std.specs.Prelude.{◌≡◌, ℕ, ◌==◌, ◌<◌, true, false, [], map, length, slice_set, Some, None, MatchOption};
+ghost use Rattle.rulebook.specs.Tables.{differs};
 ghost use Rattle.rulebook.specs.Answers.{member, Tells, RowsKept};
 ghost use Rattle.bounded.specs.Lists.{items};
 ghost use Rattle.rules.specs.Pointwise.{has_entry, distinct, replaced, written};
@@ -95,6 +95,7 @@ impl<W: Window> NewWindows<W> {
     fn lowest_emptied(&self, n: usize) -> Option<usize>
         ensures { MatchOption result (lowest_emptied n (made W.Window.numbers self.now) ≡ n) (λ k. (k < n) × (lowest_emptied n (made W.Window.numbers self.now) ≡ k)) }
     {
+        // n stands for none in the loop, as in the definition: the least is then found without asking for an Option at each item
         let mut lowest = n;
         for entry in self.list.as_slice() {
             if entry.new.is_none() && entry.at < lowest {

@@ -47,6 +47,7 @@ fn settle_slices<B: RuleBook + Copy>(
     settle_board(book, &mut board)
 }
 
+// `n` beside the rows and not a shorter slice: the call promises besides that the rows behind them stay.
 // Makes a plan of a book and the first n rows, and settles it first-come; the rows as they were given are then at the store's
 // front. A refused making changes nothing.
 pub fn settle_front<B: RuleBook + Copy>(

@@ -9,6 +9,7 @@ use Rattle.rulebook.specs.declared.answer.BookRefusal.TheVariants as book
 use Rattle.rules.specs.Books.{book_refuses}
 use Rattle.books.specs.Day.{day_meaning, day_asks}
 use Rattle.books.specs.DayBooks.{day_rules}
+use Rattle.plan.specs.declared.answer.PlanRefusal.{PlanRefusal}
 use Rattle.plan.specs.declared.answer.PlanRefusal.TheVariants as plan
 use Rattle.records.specs.declared.refusal.SheetRefusal.{SheetRefusal}
 use Rattle.records.specs.declared.refusal.SheetRefusal.TheVariants as sheet
@@ -41,6 +42,10 @@ LendsOn old new = (new.book.ghost_name ≡ old.book.ghost_name) × (new.rows.gho
 -- are there places for 64 windows, and 16 times as many in the store
 abbrev pub roomy : Held → Bool
 roomy l = nat_le 64 (length l.rows) && nat_le 1024 (length l.store)
+
+-- what the question about room answers
+abbrev pub room : Held → Result (Unit {0}) PlanRefusal
+room l = cond (roomy l) (Ok tt) (Err plan.Store)
 
 -- ---- opening
 -- what an opening answers, and what is lent after it

@@ -1,11 +1,12 @@
 // The states of a sheet, as types of plain numbers.
 ghost use Rattle.std.specs.Prelude.{◌≡◌};
-ghost use Rattle.sheet.specs.Reading.{held, roomy};
+ghost use Rattle.sheet.specs.Reading.{held, room};
 
 mod reading;
 mod settling;
 
 use crate::lent::Lent;
+use plan::PlanRefusal;
 use records::Stage;
 
 // A sheet that is being read: the next byte, what was read so far, and how many windows.
@@ -24,8 +25,11 @@ pub struct Read {
 }
 
 // Are there places for 64 windows, and for 16 times as many in the store?
-fn is_roomy(lent: &Lent) -> bool
-    ensures { result ≡ roomy (held lent.now) }
+fn check_room(lent: &Lent) -> Result<(), PlanRefusal>
+    ensures { result ≡ room (held lent.now) }
 {
-    lent.rows.len() >= 64 && lent.store.len() >= 1024
+    if lent.rows.len() < 64 || lent.store.len() < 1024 {
+        return Err(PlanRefusal::Store);
+    }
+    Ok(())
 }

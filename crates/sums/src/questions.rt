@@ -23,7 +23,7 @@ fn windows_below(terms: &[Term], n: usize) -> bool
     terms.iter().all(|term| term.window < n)
 }
 
-// Are all window numbers different?
+// Are all window numbers different? Each term is asked of those behind it, which no iterator over single terms hands out.
 fn apart(terms: &[Term]) -> bool
     ensures { result ≡ apart terms.now }
 {

@@ -6,7 +6,7 @@ use policies::{FirstCome, LowestFirst};
 use std::process::Abort;
 use std::test::Fail;
 
-// Checks the steps and the windows that a settling leaves, under both policies.
+// Checks the steps and the windows that a settling leaves, under both policies: a rule, its windows, and what is wanted of them.
 fn check_settled(
     rt: &impl Abort,
     rule: DayPost,

@@ -63,6 +63,7 @@ pub fn settled<P: Policy + Drop>(
         store: &mut store,
     };
     let (mut plan, refusal) = Plan::make(book, policy, &board);
+    // a making answers its plan beside the refusal, so no `?`
     if let Some(refused) = refusal {
         return Err(refused);
     }

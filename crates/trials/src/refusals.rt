@@ -1,4 +1,4 @@
-// What a plan refuses, by number. A refused call changes nothing.
+// What a plan refuses, by number, as the numbers are published and callers print them. A refused call changes nothing.
 use crate::fixture::Fixture;
 use crate::make::*;
 use books::{DayBook, DayPost};

@@ -1,7 +1,7 @@
 // The span kind: all whole numbers from one to another.
-ghost use Rattle.std.specs.Prelude.{◌≡◌, [], length, pos, negsuc, ◌+ℤ◌, ◌≤ℤ◌, if◌then◌else◌, MatchOption, FitsSigned};
+ghost use Rattle.std.specs.Prelude.{◌≡◌, [], pos, negsuc, ◌+ℤ◌, ◌≤ℤ◌, if◌then◌else◌, MatchOption, FitsSigned};
 ghost use Rattle.std.specs.Int.{w32, int_min, int_max};
-ghost use Rattle.windows.specs.Sets.{eq_z, range, sole_of};
+ghost use Rattle.windows.specs.Sets.{eq_z, range};
 ghost use Rattle.windows.specs.Kinds.{spans};
 ghost use Rattle.windows.specs.Rows.{Stands, Checked, span_numbers};
 ghost use Rattle.windows.specs.SpanLaws.{spans_proper, span_of, row_of, row_faithful};

@@ -7,7 +7,8 @@ use crate::product::Product;
 use rulebook::BookRefusal;
 
 impl Product {
-    // Asks whether windows p, q and r of n are three windows of the table.
+    // Asks whether windows p, q and r of n are three windows of the table. The questions are those of a pair, put to three numbers
+    // by name: over a list of them they would need loops and no fewer lines.
     pub fn check(p: usize, q: usize, r: usize, n: usize) -> Result<Product, BookRefusal>
         ensures equation { MatchResult result (λ c. (product_asks p q r n ≡ None) × (c.p ≡ p) × (c.q ≡ q) × (c.r ≡ r)) (λ f. product_asks p q r n ≡ Some f) }
         ensures means { ProductMeans p q r result }

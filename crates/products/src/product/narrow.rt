@@ -41,7 +41,8 @@ fn products(p: &Span, q: &Span) -> Ends
     }
 }
 
-// The numbers with their signs turned.
+// The numbers with their signs turned. How far from 0 numbers may lie differs from step to step, so it is asked here and is no
+// property of `Ends`.
 fn negated(ends: Ends) -> Ends
     requires { (Small 1000000000000 ends.from) × (Small 1000000000000 ends.to) }
     ensures { (result.from ≡ neg_ℤ ends.to) × (result.to ≡ neg_ℤ ends.from) }
@@ -90,7 +91,8 @@ fn around_zero(ends: Ends) -> bool
 }
 
 // The weak division u : t, as far as a window may reach: all numbers where 0 is in both; else 0 is taken off t where it is
-// an end.
+// an end. All numbers and no number are intervals too, the widest and one from 1 to 0: so one clause and one clipping serve
+// all four cases, where an enum would take two more of each.
 fn weak_quotients(u: &Span, t: &Span) -> Ends
     ensures { (v : ℤ) → negsuc 999999 ≤ℤ v → v ≤ℤ pos 1000000 → weakly_divides u.now.lo u.now.hi t.now.lo t.now.hi v ≡ between result.from result.to v }
 {

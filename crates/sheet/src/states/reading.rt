@@ -3,7 +3,7 @@ ghost use Rattle.std.specs.Prelude.{◌≡◌, ◌<◌, length, OnErr};
 ghost use Rattle.sheet.specs.Reading.{LendsOn, held, opened, view, added, took, outcome, reading, readings, quiet, finished, whole};
 ghost use Rattle.sheet.specs.declared.item.Item.TheVariants as item;
 
-use super::{Open, Read, is_roomy};
+use super::{Open, Read, check_room};
 use crate::fault::{Cause, Fault};
 use crate::item::{Item, item_of};
 use crate::lent::Lent;
@@ -28,12 +28,10 @@ impl Open {
                 at: 0,
             });
         }
-        if !is_roomy(lent) {
-            return Err(Fault {
-                cause: PlanRefusal::Store.into(),
-                at: 0,
-            });
-        }
+        check_room(lent).map_err(|refusal| Fault {
+            cause: refusal.into(),
+            at: 0,
+        })?;
         lent.book.shorten(0);
         Ok(Open {
             at: 0,
@@ -90,9 +88,7 @@ impl Open {
         if matches!(item, Item::Window(_)) && self.windows >= 64 {
             return Err(PlanRefusal::Windows.into());
         }
-        if !is_roomy(lent) {
-            return Err(PlanRefusal::Store.into());
-        }
+        check_room(lent)?;
         match item {
             Item::Kind(kind) => self.add_kind(kind, lent),
             Item::Window(row) => self.add_window(row, lent),

@@ -5,11 +5,11 @@ ghost use Rattle.plan.specs.Views.{Untouched};
 ghost use Rattle.sheet.specs.Reading.{LendsOn, held};
 ghost use Rattle.sheet.specs.Settled.{settled, left, printed_sheet};
 
-use super::{Read, is_roomy};
+use super::{Read, check_room};
 use crate::fault::Fault;
 use crate::lent::Lent;
 use listing::print_listing;
-use plan::{PlanRefusal, Verdict};
+use plan::Verdict;
 use records::SheetRefusal;
 use settle::settle_front;
 
@@ -21,10 +21,10 @@ impl Read {
         ensures lent { LendsOn lent.old lent.new }
     {
         let at = self.at;
-        if !is_roomy(lent) {
-            let cause = PlanRefusal::Store.into();
-            return Err(Fault { cause, at });
-        }
+        check_room(lent).map_err(|refusal| Fault {
+            cause: refusal.into(),
+            at,
+        })?;
         settle_front(*lent.book, lent.rows, self.windows, lent.store).map_err(|refusal| Fault {
             cause: refusal.into(),
             at,
@@ -36,10 +36,10 @@ impl Read {
         ensures { printed_sheet self.now (held lent.now) verdict out.old ≡ record { answer = result; after = out.new } }
     {
         let at = self.at;
-        if !is_roomy(lent) {
-            let cause = PlanRefusal::Store.into();
-            return Err(Fault { cause, at });
-        }
+        check_room(lent).map_err(|refusal| Fault {
+            cause: refusal.into(),
+            at,
+        })?;
         let end = self.windows.min(lent.rows.len());
         print_listing(verdict, &lent.rows[..end], lent.store, out).ok_or(Fault {
             cause: SheetRefusal::Room.into(),

@@ -12,7 +12,7 @@ ghost use Rattle.sums.specs.Laws.{SumKeeps, SumReached};
 ghost use Rattle.sums.specs.Steps.{WindowOf, ExtremesOf, entries};
 
 use crate::ends::Ends;
-use crate::posted::{Relation, Term};
+use crate::posted::Relation;
 use crate::sum::Sum;
 use rulebook::{Emptied, WindowSet, window_at};
 use rules::NewWindows;
@@ -25,6 +25,7 @@ struct Weight {
     ghost fits: { Weighs value },
 }
 
+// How far from 0 its numbers may lie is asked of each step here, and is no property of `Ends`: it differs from step to step.
 // What the other terms leave of the bound, at least and at most: `total` is the sum of all, `own` the term itself.
 fn left_over(bound: i32, total: Ends, own: Ends) -> Ends
     requires bound { Small 1000000000 bound }

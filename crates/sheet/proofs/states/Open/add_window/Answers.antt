@@ -1,4 +1,4 @@
-use Rattle.std.proofs.Common.{refl, Err, sym, ap, ◌∙◌}
+use Rattle.std.proofs.Common.{Err, sym, ap, ◌∙◌}
 use Rattle.std.proofs.lemmas.Bool.{cond-true, cond-false}
 use Rattle.windows.specs.Rows.{span_stands}
 use Rattle.sheet.proofs.WindowLaws.{row_passes, row_fails}
