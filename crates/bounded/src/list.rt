@@ -12,10 +12,10 @@ pub struct BoundedList<T, const N: usize> {
     ghost few: { len ≤ N },
 }
 
+// A copy of a list is the list itself, and is made without an allocation. Neither impl can be derived over the ghost fields of a
+// generic struct.
 impl<T: Copy, const N: usize> Copy for BoundedList<T, N> {}
 
-// A copy of a list is the list itself, and is made without an allocation. None can be derived over the ghost fields of a generic
-// struct.
 impl<T: Copy, const N: usize> Clone for BoundedList<T, N> {
     ghost is_clone = { λ b c. c ≡ b };
 

@@ -4,8 +4,8 @@ ghost use Rattle.listing.specs.Lines.{Look, span_look};
 
 use windows::SpanRow;
 
-// The fields of a line between the window's number and its word. An enum with one case so far: a set is shown by one field, its
-// mask, which is to be a case beside this one.
+// The fields of a line between the window's number and its word. An enum with one case, so that a line is made
+// from what a kind shows and not from its row: two bare numbers would say no more plainly what they are.
 #[derive(Clone, Copy)]
 pub enum Fields {
     // the two ends of a span

@@ -84,9 +84,9 @@ impl Pair {
         new
     }
 
-    // The first three lines of differ, same and step are alike: handed a closure of two windows, one function would have to promise
-    // what any closure makes, and each caller would need as many lines.
-    // Differ: the new windows that each lost the sole number of the other. Written into the rows they give the rule's outcome.
+    // Differ: the new windows that each lost the sole number of the other. Written into the rows they give the rule's outcome. The
+    // first three lines are those of `same` and of a step: one function for them would take a closure of two windows, promise what
+    // any closure makes, and leave its callers as long.
     pub fn differ<W: Window>(&self, rows: &[W::Row]) -> NewWindows<W>
         ensures equation { made W.Window.numbers result ≡ differ_entries W.Window.kind self.now.p self.now.q (map W.Window.stands rows.now) }
         ensures outcome { written (map W.Window.stands rows.now) (made W.Window.numbers result) ≡ outcome (rule_of (differ_rule W.Window.kind self.now.p self.now.q)) (map W.Window.stands rows.now) }

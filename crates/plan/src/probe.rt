@@ -13,6 +13,7 @@ use crate::plan::Plan;
 use policies::Policy;
 use rulebook::RuleBook;
 
+// Each clause names the state as `see` or `s`, for the reason that stands at the calls of a plan.
 // Cuts, and settles unless the cut is refused: a function of its own, so that `?` leaves no mark behind.
 fn cut_and_settle<B: RuleBook, P: Policy>(
     plan: &mut Plan<B, P>,

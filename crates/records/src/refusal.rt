@@ -1,4 +1,4 @@
-// What only the sheet refuses.
+// What only the sheet refuses. It is like `BookRefusal` in shape alone: each layer has refusals and numbers of its own.
 ghost use Rattle.std.specs.Prelude.{◌≡◌};
 ghost use Rattle.records.specs.Records.{sheet_number};
 

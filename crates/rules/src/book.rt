@@ -21,9 +21,10 @@ pub struct Book<R> {
     rules: BoundedList<Option<R>, FULL>,
 }
 
+// A copy of a book is the book itself, and is made without an allocation. Neither impl can be derived over a field that is
+// cloned only if it is `Copy`, as the list is.
 impl<R: Copy> Copy for Book<R> {}
 
-// A copy of a book is the book itself, and is made without an allocation. A derive would not say so.
 impl<R: Copy> Clone for Book<R> {
     ghost is_clone = { λ b c. c ≡ b };
 

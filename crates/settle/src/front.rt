@@ -27,6 +27,7 @@ fn settle_board<B: RuleBook + Copy>(
         return Err(refused);
     }
     let n = board.rows.len();
+    // both lent as `&mut`, so that the check follows both loans
     let rows = &mut *board.rows;
     let store = &mut *board.store;
     store[..n].copy_from_slice(rows);
@@ -47,9 +48,8 @@ fn settle_slices<B: RuleBook + Copy>(
     settle_board(book, &mut board)
 }
 
-// `n` beside the rows and not a shorter slice: the call promises besides that the rows behind them stay.
 // Makes a plan of a book and the first n rows, and settles it first-come; the rows as they were given are then at the store's
-// front. A refused making changes nothing.
+// front. A refused making changes nothing. `n` stands beside the rows, since the call promises too that the rows behind them stay.
 pub fn settle_front<B: RuleBook + Copy>(
     book: B,
     rows: &mut [<B::Kind as Window>::Row],

@@ -24,7 +24,7 @@ pub struct Read {
     windows: usize,
 }
 
-// Are there places for 64 windows, and for 16 times as many in the store?
+// Asks whether there are places for 64 windows, and for 16 times as many in the store.
 fn check_room(lent: &Lent) -> Result<(), PlanRefusal>
     ensures { result ≡ room (held lent.now) }
 {

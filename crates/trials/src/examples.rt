@@ -6,7 +6,8 @@ use policies::{FirstCome, LowestFirst};
 use std::process::Abort;
 use std::test::Fail;
 
-// Checks the steps and the windows that a settling leaves, under both policies: a rule, its windows, and what is wanted of them.
+// Checks the steps and the windows that a settling leaves, under both policies: a struct of the five
+// parameters would be made and taken apart here alone.
 fn check_settled(
     rt: &impl Abort,
     rule: DayPost,

@@ -71,6 +71,7 @@ fn refused_records(rt: HostRuntime) {
 
 #[test]
 fn finished_early(rt: HostRuntime) -> Result<(), Fail> {
+    // lent by this test itself, as in `list`: a function hands out no loan of its locals
     let mut book = DayBook::new();
     let mut rows = ROOM;
     let mut store = ROOM;

@@ -7,8 +7,8 @@ use super::{Text, push_number};
 use crate::shown::{Fields, Shown};
 use plan::Verdict;
 
-// The fields of a row, each with a space behind it. How much room is left stands in the `requires` from here up: each piece of a
-// line has a bound of its own, so no type of texts holds them all.
+// The fields of a row, each with a space behind it. How much room is left stands in this `requires` and in the
+// two below: each piece of a line has a bound of its own, so no type of texts holds them all.
 fn write_fields(text: &mut Text, fields: Fields)
     requires { array_string_len text.old + 24 ≤ 8192 }
     ensures bytes { text.new.bytes ≡ fielded text.old.bytes fields }

@@ -50,7 +50,7 @@ impl<'a, W: Window> Board<'a, W> {
     }
 }
 
-// Each clause names the state as `see`, for the reason that stands at the other calls of a plan.
+// Each clause names the state as `see` or `s`, for the reason that stands at the other calls of a plan.
 impl<B: RuleBook, P: Policy> Plan<B, P> {
     // Copies the table, the rule count and the impossible flag, and hands out a mark.
     pub fn mark(&mut self, board: &mut Board<B::Kind>) -> Result<Mark, PlanRefusal>

@@ -41,8 +41,8 @@ fn products(p: &Span, q: &Span) -> Ends
     }
 }
 
-// The numbers with their signs turned. How far from 0 numbers may lie differs from step to step, so it is asked here and is no
-// property of `Ends`.
+// The numbers with their signs turned. How far from 0 numbers may lie differs from step to step, so it is asked here and of the
+// two functions below, and is no property of `Ends`.
 fn negated(ends: Ends) -> Ends
     requires { (Small 1000000000000 ends.from) × (Small 1000000000000 ends.to) }
     ensures { (result.from ≡ neg_ℤ ends.to) × (result.to ≡ neg_ℤ ends.from) }

@@ -125,6 +125,7 @@ impl Open {
         ensures after { view self.new lent.new ≡ (readings 15361 bytes.now (view self.old lent.old)).after }
         ensures lent { LendsOn lent.old lent.new }
     {
+        // counted, so that the loop ends by the check
         for turn in 0..MOST_READINGS {
             if self.read(bytes, lent)?.is_none() {
                 return Ok(());

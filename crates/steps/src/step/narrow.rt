@@ -14,8 +14,8 @@ use rules::NewWindows;
 use sets::{Set, SetRow};
 use windows::Window;
 
-// The mask of the numbers v for which v + k is in the mask. The distance is a step's or its negation, so its reach is asked again
-// and is no type's.
+// The mask of the numbers v for which v + k is in the mask. The distance is a step's or its negation, so its reach is asked here
+// and of `partnered`, and is no type's.
 fn moved_back(mask: u64, k: i32) -> u64
     requires { in_reach k ≡ true }
     ensures { (v : ℤ) → pos 0 ≤ℤ v → v ≤ℤ pos 63 → has (mask_numbers result) v ≡ has (mask_numbers mask) (v +ℤ k) }

@@ -25,8 +25,8 @@ struct Weight {
     ghost fits: { Weighs value },
 }
 
-// How far from 0 its numbers may lie is asked of each step here, and is no property of `Ends`: it differs from step to step.
-// What the other terms leave of the bound, at least and at most: `total` is the sum of all, `own` the term itself.
+// What the other terms leave of the bound, at least and at most: `total` is the sum of all, `own` the term itself. How far
+// from 0 numbers may lie differs from step to step, so it is asked here and of the steps below, and is no property of `Ends`.
 fn left_over(bound: i32, total: Ends, own: Ends) -> Ends
     requires bound { Small 1000000000 bound }
     requires total { (Small 80000000000 total.from) × (Small 80000000000 total.to) }
