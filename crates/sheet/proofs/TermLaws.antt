@@ -1,8 +1,9 @@
 -- Terms of five bytes, one after the other.
-use Rattle.std.proofs.Common.{◌≡◌, ℕ, ◌+◌, ◌-◌, ◌<◌, ◌≤◌, cond, leb, List, [], ◌∷◌, length, get_or, take, drop, set, ℤ, Some, None, Option, sym, refl, ap, ◌∙◌, add-one, arith, w32, SFits, to_z, of_z}
+use Rattle.std.proofs.Common.{◌≡◌, ℕ, zero, suc, ◌+◌, ◌-◌, ◌*◌, ◌/◌, ◌<◌, ◌≤◌, cond, leb, List, [], ◌∷◌, length, get_or, take, drop, set, ℤ, Some, None, Option, sym, refl, ap, ◌∙◌, add-one, drop-drop, arith, w32, SFits, to_z, of_z}
 use Rattle.std.proofs.lemmas.Int.{to_z-of_z}
 use Rattle.std.proofs.lemmas.Bool.{cond-true, le-leb}
 use Rattle.std.proofs.lemmas.Slice.{between_to_end}
+use Rattle.std.specs.Simd.{first_chunks}
 use Rattle.sums.specs.declared.posted.Term.{Term}
 use Rattle.sums.specs.declared.posted.PostedSum.{PostedSum}
 use Rattle.records.specs.Bytes.{int32}
@@ -16,7 +17,7 @@ from_is s n = between_to_end s n (length s) (omega arith)
 abbrev pub first : List ℕ → Term
 first s = record { window = get_or s 0 0; weight = int32 s 1 }
 
-pub terms_step : (s : List ℕ) → 5 ≤ length s → terms s ≡ first s ∷ terms (drop 5 s)
+terms_step : (s : List ℕ) → 5 ≤ length s → terms s ≡ first s ∷ terms (drop 5 s)
 terms_step [] h = absurd (omega arith)
 terms_step (a ∷ []) h = absurd (omega arith)
 terms_step (a ∷ b ∷ []) h = absurd (omega arith)
@@ -32,20 +33,39 @@ terms_short (a ∷ b ∷ c ∷ []) h = refl
 terms_short (a ∷ b ∷ c ∷ d ∷ []) h = refl
 terms_short (a ∷ b ∷ c ∷ d ∷ e ∷ s) h = absurd (omega arith)
 
--- one turn of the loop: the first term of s is placed, and the rest of s is left
-pub placed_more : (out new : List Term) (n : ℕ) (s : List ℕ) (t : Term) (all : List Term) → 5 ≤ length s → t ≡ first s → new ≡ set out n t → placed out n (terms s) ≡ all → placed new (n + 1) (terms (take (length s - 5) (drop 5 s))) ≡ all
-placed_more out new n s t all long e f h =
-    ap (λ l. placed l (n + 1) (terms (take (length s - 5) (drop 5 s)))) (f ∙ ap (set out n) e)
-    ∙ ap (λ l. placed (set out n (first s)) (n + 1) (terms l)) (from_is s 5)
-    ∙ ap (λ m. placed (set out n (first s)) m (terms (drop 5 s))) (add-one n)
-    ∙ ap (placed out n) (sym (terms_step s long))
-    ∙ h
+pub terms_count : (s : List ℕ) → length (terms s) ≡ length s / 5
+terms_count [] = refl
+terms_count (a ∷ []) = refl
+terms_count (a ∷ b ∷ []) = refl
+terms_count (a ∷ b ∷ c ∷ []) = refl
+terms_count (a ∷ b ∷ c ∷ d ∷ []) = refl
+terms_count (a ∷ b ∷ c ∷ d ∷ e ∷ s) = let r = terms_count s in omega arith
 
-pub count_more : (n : ℕ) (s : List ℕ) (all : ℕ) → 5 ≤ length s → n + length (terms s) ≡ all → (n + 1) + length (terms (take (length s - 5) (drop 5 s))) ≡ all
-count_more n s all long h =
-    let e = ap length (terms_step s long) in
-    let r = ap (λ l. length (terms l)) (from_is s 5) in
-    omega arith
+pub chunk_at : (k n : ℕ) (s : List ℕ) → n < k → get_or (first_chunks 5 k s) n [] ≡ take 5 (drop (n * 5) s)
+chunk_at zero n s lt = absurd (omega arith)
+chunk_at (suc k) zero s lt = refl
+chunk_at (suc k) (suc n) s lt =
+    let e : 5 + n * 5 ≡ suc n * 5 = omega arith in
+    chunk_at k n (drop 5 s) (omega arith) ∙ ap (take 5) (drop-drop (n * 5) 5 s ∙ ap (λ m. drop m s) e)
+
+pub first_take : (s : List ℕ) → 5 ≤ length s → first (take 5 s) ≡ first s
+first_take [] h = absurd (omega arith)
+first_take (a ∷ []) h = absurd (omega arith)
+first_take (a ∷ b ∷ []) h = absurd (omega arith)
+first_take (a ∷ b ∷ c ∷ []) h = absurd (omega arith)
+first_take (a ∷ b ∷ c ∷ d ∷ []) h = absurd (omega arith)
+first_take (a ∷ b ∷ c ∷ d ∷ e ∷ s) h = refl
+
+-- one turn of the loop: the first of what is left is placed
+pub placed_more : (out new : List Term) (n : ℕ) (s : List ℕ) (all : List Term) → 5 ≤ length (drop (n * 5) s) → new ≡ set out n (first (drop (n * 5) s)) → placed out n (terms (drop (n * 5) s)) ≡ all → placed new (n + 1) (terms (drop ((n + 1) * 5) s)) ≡ all
+placed_more out new n s all long f h =
+    let r = drop (n * 5) s in
+    let e : (n + 1) * 5 ≡ n * 5 + 5 = omega arith in
+    ap (λ l. placed l (n + 1) (terms (drop ((n + 1) * 5) s))) f
+    ∙ ap (λ l. placed (set out n (first r)) (n + 1) (terms l)) (ap (λ m. drop m s) e ∙ sym (drop-drop 5 (n * 5) s))
+    ∙ ap (λ m. placed (set out n (first r)) m (terms (drop 5 r))) (add-one n)
+    ∙ ap (placed out n) (sym (terms_step r long))
+    ∙ h
 
 -- the term that the code makes
 pub term_is : (s : List ℕ) (z : ℤ) (w : ℕ) → SFits w32 z → z ≡ int32 s 1 → w ≡ get_or s 0 0 → ◌≡◌ {A = Term} (record { window = w; weight = to_z w32 (of_z w32 z) }) (first s)

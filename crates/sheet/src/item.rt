@@ -30,19 +30,16 @@ fn terms_of(payload: &[u8]) -> ([Term; MOST_TERMS], usize)
         window: 0,
         weight: 0,
     }; MOST_TERMS];
-    let mut count: usize = 0;
-    let mut rest = payload;
-    while let [w, a, b, c, d, more @ ..] = rest {
-        if count < MOST_TERMS {
-            out[count] = Term {
+    let (parts, _) = payload.as_chunks::<5>();
+    for (n, [w, a, b, c, d]) in parts.iter().enumerate() {
+        if n < MOST_TERMS {
+            out[n] = Term {
                 window: *w as usize,
                 weight: i32::from_le_bytes([*a, *b, *c, *d]),
             };
         }
-        count += 1;
-        rest = more;
     }
-    (out, count)
+    (out, parts.len())
 }
 
 // A sum: its bound, and then its terms.

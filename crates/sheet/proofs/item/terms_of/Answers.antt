@@ -1,24 +1,30 @@
-use Rattle.std.proofs.Common.{◌<◌, ◌≤◌, length, sym, refl, ap, ◌∙◌, arith, length-drop, length-set, w32, SFits, rules}
+use Rattle.std.proofs.Common.{◌≡◌, ◌*◌, ◌/◌, ◌<◌, ◌≤◌, [], length, drop, get_or, set, sym, refl, ap, ◌∙◌, arith, length-drop, length-set, w32, SFits, rules}
 use Rattle.std.proofs.lemmas.List.{set_past}
 use Rattle.sheet.specs.Items.{placed}
-use Rattle.sheet.proofs.TermLaws.{from_is, first, placed_more, count_more, term_is, terms_short}
+use Rattle.sheet.proofs.TermLaws.{first, placed_more, term_is, terms_short, terms_count, chunk_at, first_take}
 use Rattle.sheet.proofs.item.terms_of.Goals as goal
-use Rattle.sheet.proofs.item.terms_of.Goals.{then-count-lt-MOST_TERMS, else-count-lt-MOST_TERMS}
+use Rattle.sheet.proofs.item.terms_of.Goals.{then-n-lt-MOST_TERMS, else-n-lt-MOST_TERMS}
 
-pub loop-rest-preserved : goal.loop-rest-preserved
-loop-rest-preserved c =
-    let s = c.loop-rest.rest.now in
-    let n = c.loop-rest.count in
-    let inv = c.loop-rest.invariant in
-    let long : 5 ≤ length s = search rules in
-    let left = ap length (from_is s 5) ∙ length-drop 5 s in
-    elim c.if-count-lt-MOST_TERMS.branch [ then-count-lt-MOST_TERMS w ↦ (let fits : SFits w32 w.from_le_bytes.result = search rules in let t = term_is s w.from_le_bytes.result _ fits w.from_le_bytes.ensures refl in (placed_more c.loop-rest.out c.if-count-lt-MOST_TERMS.out n s _ _ long t w.out-is inv.0, count_more n s _ long inv.1, ap length w.out-is ∙ length-set _ _ _ ∙ inv.2, omega arith)) | else-count-lt-MOST_TERMS w ↦ (placed_more c.loop-rest.out c.if-count-lt-MOST_TERMS.out n s (first s) _ long refl (w.out-is ∙ sym (set_past c.loop-rest.out n (first s) (omega arith))) inv.0, count_more n s _ long inv.1, ap length w.out-is ∙ inv.2, omega arith) ]
+pub loop-n-preserved : goal.loop-n-preserved
+loop-n-preserved c =
+    let p = c.args.payload.now in
+    let n = c.loop-n.n in
+    let s = drop (n * 5) p in
+    let inv = c.loop-n.invariant in
+    let below : n < length p / 5 = omega (arith, c.loop-n-test.true, c.as_chunks.ensures.front_len) in
+    let left = length-drop (n * 5) p in
+    let long : 5 ≤ length s = omega arith in
+    let part = ap (λ l. get_or l n []) c.as_chunks.ensures.front ∙ chunk_at (length p / 5) n p below in
+    let is = ap first part ∙ first_take s long in
+    let written : c.if-n-lt-MOST_TERMS.out ≡ set c.loop-n.out n (first s) = elim c.if-n-lt-MOST_TERMS.branch [ then-n-lt-MOST_TERMS w ↦ (let fits : SFits w32 w.from_le_bytes.result = search rules in w.out-is ∙ ap (set c.loop-n.out n) (term_is (get_or c.as_chunks.result.0.now n []) w.from_le_bytes.result _ fits w.from_le_bytes.ensures refl ∙ is)) | else-n-lt-MOST_TERMS w ↦ w.out-is ∙ sym (set_past c.loop-n.out n (first s) (omega arith)) ] in
+    (placed_more c.loop-n.out c.if-n-lt-MOST_TERMS.out n p _ long written inv.0, ap length written ∙ length-set _ _ _ ∙ inv.1)
 
 pub returns : goal.returns
 returns c =
-    let s = c.loop-rest.rest.now in
-    let inv = c.loop-rest.invariant in
-    let short : length s < 5 = search rules in
-    let e = terms_short s short in
-    let n = ap length e in
-    record { items = ap (placed c.loop-rest.out c.loop-rest.count) (sym e) ∙ inv.0; count = omega arith }
+    let p = c.args.payload.now in
+    let n = c.loop-n.n in
+    let s = drop (n * 5) p in
+    let left = length-drop (n * 5) p in
+    let ended : n ≡ length p / 5 = omega (arith, c.as_chunks.ensures.front_len) in
+    let short : length s < 5 = omega arith in
+    record { items = ap (placed c.loop-n.out n) (sym (terms_short s short)) ∙ c.loop-n.invariant.0; count = c.as_chunks.ensures.front_len ∙ sym (terms_count p) }
