@@ -101,14 +101,9 @@ impl<R: BookRule> RuleBook for Book<R> {
     }
 
     fn reach(&self) -> usize {
-        // over the numbers of windows, which no list holds
-        let mut reach = 0;
-        for j in 0..64 {
-            if self.some_reads(j) {
-                reach = j + 1;
-            }
-        }
-        reach
+        (0..64)
+            .rposition(|j| self.some_reads(j))
+            .map_or(0, |j| j + 1)
     }
 
     fn reads(&self, i: usize, j: usize) -> bool {

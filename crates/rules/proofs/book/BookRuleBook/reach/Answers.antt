@@ -1,16 +1,18 @@
-use Rattle.std.proofs.Common.{◌≡◌, ap, ◌∙◌, arith}
+use Rattle.std.proofs.Common.{◌≡◌, ℕ, ◌+◌, List, Some, None, Option, refl, sym, ◌∙◌, rules}
+use Rattle.std.specs.Option.{MatchOption}
+use borrow.Author.Tests.{tests}
+use Rattle.rulebook.specs.Rules.{Rule}
 use Rattle.rulebook.specs.Answers.{reach_of}
 use Rattle.rules.specs.Books.{book_rules}
-use Rattle.rules.proofs.BookLaws.{reach_more, reach_kept}
+use Rattle.rules.proofs.BookLaws.{reach_found}
 use Rattle.rules.proofs.book.BookRuleBook.reach.Goals as goal
-use Rattle.rules.proofs.book.BookRuleBook.reach.Goals.{then-some_reads, else-some_reads}
-
-pub loop-j-preserved : goal.loop-j-preserved
-loop-j-preserved g c =
-    let rules = book_rules g.R.BookRule.rule c.args.self.now in
-    elim c.if-some_reads.branch [ then-some_reads w ↦ reach_more rules c.loop-j.j c.if-some_reads.reach c.some_reads.result c.some_reads.ensures w.if-some_reads.true w.reach-is | else-some_reads w ↦ reach_kept rules c.loop-j.j c.loop-j.reach c.if-some_reads.reach c.some_reads.result c.some_reads.ensures w.if-some_reads.false c.loop-j.invariant w.reach-is ]
 
 pub returns : goal.returns
-returns g c =
-    let all : c.loop-j.j ≡ 64 = omega (arith, c.loop-j-test.false, c.loop-j.auto.j-end) in
-    c.loop-j.invariant ∙ ap (reach_of (book_rules g.R.BookRule.rule c.args.self.now)) all
+returns g c = go c.rposition.result refl (reach_found held _ _ _ c.rposition.result refl c.rposition.ensures.ran (λ x b q k. search (rules, tests)))
+  where
+    held : List Rule
+    held = book_rules g.R.BookRule.rule c.args.self.now
+
+    go : (r : Option ℕ) → c.rposition.result ≡ r → MatchOption r (reach_of held 64 ≡ 0) (λ i. reach_of held 64 ≡ i + 1) → c.map_or.result ≡ reach_of held 64
+    go None e m = (search rules) ∙ sym m
+    go (Some i) e m = (search rules) ∙ sym m
