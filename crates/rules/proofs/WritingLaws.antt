@@ -1,7 +1,7 @@
 -- New windows written one by one: which window is the lowest emptied, and which windows change.
-use Rattle.std.proofs.Common.{◌≡◌, ℕ, zero, suc, ◌+◌, ◌<◌, ◌≤◌, Bool, true, false, cond, not, ◌==◌, ◌&&◌, ◌||◌, eqb, ltb, ◌⊎◌, List, [], ◌∷◌, ◌++◌, map, length, get_or, drop, set, ℤ, is_some, Some, None, Ok, Err, Option, sym, refl, ap, ◌∙◌, subst, ap₂, inl, inr, arith, MatchOption}
-use Rattle.std.specs.List.{AllByRecursion as All, list_any}
-use Rattle.std.proofs.lemmas.List.{get_or_past, get_or-set_same, get_or-set_other, length-set, length-map, set_past, drop_more, drop_all, get_or-map, map-append, map-set, set-get_or}
+use Rattle.std.proofs.Common.{◌≡◌, ℕ, zero, suc, ◌+◌, ◌<◌, ◌≤◌, Bool, true, false, cond, not, ◌==◌, ◌&&◌, ◌||◌, eqb, ltb, ◌⊎◌, List, [], ◌∷◌, ◌++◌, map, length, get_or, drop, set, ℤ, is_some, Some, None, Ok, Err, Option, sym, refl, ap, ◌∙◌, subst, ap₂, inl, inr, arith, MatchOption, min}
+use Rattle.std.specs.List.{AllByRecursion as All, fold, reduce, filter, list_any}
+use Rattle.std.proofs.lemmas.List.{get_or_past, get_or-set_same, get_or-set_other, length-set, length-map, set_past, drop_more, get_or-map, map-append, map-set, set-get_or}
 use Rattle.std.proofs.lemmas.Bool.Decides.{nat_tests, eqb_tells}
 use Rattle.windows.specs.Sets.{same_set}
 use Rattle.windows.specs.SetLaws.{never}
@@ -173,9 +173,6 @@ module _ {W : Type 0} (numbers : W → List ℤ) where
   listed_next items i x h q =
       drop_more (listed numbers items) i (entry numbers x) (omega (arith, length-map items (entry numbers))) ∙ ap (λ y. y ∷ drop (i + 1) (listed numbers items)) (get_or-map (entry numbers) items i x (entry numbers x) h ∙ ap (entry numbers) (sym q))
 
-  pub listed_none : (items : List (NewWindow W)) (i : ℕ) → length items ≤ i → drop i (listed numbers items) ≡ []
-  listed_none items i h = drop_all i (listed numbers items) (omega (arith, length-map items (entry numbers)))
-
   -- whatever the numbers are
   pub has_any : (xs : List (NewWindow W)) (j : ℕ) → has_entry (map (entry numbers) xs) j ≡ has_entry (map (entry (λ _. [])) xs) j
   has_any [] j = refl
@@ -243,13 +240,34 @@ tells_lost T es k a d e h = subst (λ o. Tells T o (Err (record { window = k }))
 pub tells_all : (T U : Table) (es : List Entry) (s : WindowSet) → all_filled T ≡ true → distinct es ≡ true → length T ≤ lowest_emptied (length T) es → U ≡ replaced T es → ((j : ℕ) → member s j ≡ differs T U j) → Tells T (written T es) (Ok s) U
 tells_all T U es s a d h e f = subst (λ o. Tells T o (Ok s) U) (sym (written_all T es a d h)) (e, f)
 
--- ---- the steps of the two searches
+-- ---- the two searches
 pub has_any_at : {W : Type 0} (numbers : W → List ℤ) (xs : List (NewWindow W)) (j : ℕ) → list_any (λ x. x.at == j) xs ≡ has_entry (listed numbers xs) j
 has_any_at numbers [] j = refl
 has_any_at numbers (x ∷ xs) j = ap (λ t. (x.at == j) || t) (has_any_at numbers xs j)
 
-pub lowest_more : (es : List Entry) (e : Entry) (rest : List Entry) (low low' all : ℕ) → es ≡ e ∷ rest → low' ≡ cond (not (filled e.new) && ltb e.at low) e.at low → lowest_emptied low es ≡ all → lowest_emptied low' rest ≡ all
-lowest_more es e rest low low' all q l i = ap (λ n. lowest_emptied n rest) l ∙ sym (ap (lowest_emptied low) q) ∙ i
+-- the numbers below n of the new windows that would be emptied
+abbrev pub emptied_below : {W : Type 0} → ℕ → List (NewWindow W) → List ℕ
+emptied_below n xs = map (λ x. x.at) (filter (λ x. not (is_some x.new) && ltb x.at n) xs)
+
+module _ {W : Type 0} (numbers : W → List ℤ) (some : (w : W) → 0 < length (numbers w)) (n : ℕ) where
+  lowest_fold : (xs : List (NewWindow W)) (m : ℕ) → m ≤ n → fold min m (emptied_below n xs) ≡ lowest_emptied m (listed numbers xs)
+  lowest_fold [] m l = refl
+  lowest_fold (x ∷ xs) m l = subst (λ f. fold min m (emptied_below n (x ∷ xs)) ≡ lowest_emptied (cond (not f && ltb x.at m) x.at m) (listed numbers xs)) (sym (filled_of numbers some x.new)) (by (is_some x.new) (ltb x.at n) refl (lowest_fold xs))
+    where
+      by : (b t : Bool) → ltb x.at n ≡ t → ((m : ℕ) → m ≤ n → fold min m (emptied_below n xs) ≡ lowest_emptied m (listed numbers xs)) → fold min m (map (λ x. x.at) (cond (not b && t) (x ∷ filter (λ x. not (is_some x.new) && ltb x.at n) xs) (filter (λ x. not (is_some x.new) && ltb x.at n) xs))) ≡ lowest_emptied (cond (not b && ltb x.at m) x.at m) (listed numbers xs)
+      by true t q ih = ih m l
+      by false true q ih = let e : cond (ltb x.at m) x.at m ≡ min m x.at = grind (arith, nat_tests) in rw e (ih (min m x.at) (omega arith))
+      by false false q ih = let e : cond (ltb x.at m) x.at m ≡ m = grind (arith, nat_tests) in rw e (ih m l)
+
+  -- the least of them is the lowest emptied window
+  pub lowest_is_least : (xs : List (NewWindow W)) → MatchOption (reduce min (emptied_below n xs)) (lowest_emptied n (listed numbers xs) ≡ n) (λ k. (k < n) × (lowest_emptied n (listed numbers xs) ≡ k))
+  lowest_is_least [] = refl
+  lowest_is_least (x ∷ xs) = subst (λ f. MatchOption (reduce min (emptied_below n (x ∷ xs))) (lowest_emptied (cond (not f && ltb x.at n) x.at n) (listed numbers xs) ≡ n) (λ k. (k < n) × (lowest_emptied (cond (not f && ltb x.at n) x.at n) (listed numbers xs) ≡ k))) (sym (filled_of numbers some x.new)) (by (is_some x.new) (ltb x.at n) refl (lowest_is_least xs))
+    where
+      by : (b t : Bool) → ltb x.at n ≡ t → MatchOption (reduce min (emptied_below n xs)) (lowest_emptied n (listed numbers xs) ≡ n) (λ k. (k < n) × (lowest_emptied n (listed numbers xs) ≡ k)) → MatchOption (reduce min (map (λ x. x.at) (cond (not b && t) (x ∷ filter (λ x. not (is_some x.new) && ltb x.at n) xs) (filter (λ x. not (is_some x.new) && ltb x.at n) xs)))) (lowest_emptied (cond (not b && t) x.at n) (listed numbers xs) ≡ n) (λ k. (k < n) × (lowest_emptied (cond (not b && t) x.at n) (listed numbers xs) ≡ k))
+      by true t q ih = ih
+      by false true q ih = let m : x.at < n = grind (arith, nat_tests) in let f = lowest_fold xs x.at (omega arith) in (omega (arith, f, m, lowest_below x.at (listed numbers xs)), sym f)
+      by false false q ih = ih
 
 -- ---- one more new window
 module _ {W : Type 0} (numbers : W → List ℤ) (xs ys : List (NewWindow W)) (x : NewWindow W) (a : Option ℕ) (q : bounded.pushed 8 xs x ≡ record { answer = a; after = ys }) where

@@ -95,14 +95,12 @@ impl<W: Window> NewWindows<W> {
     fn lowest_emptied(&self, n: usize) -> Option<usize>
         ensures { MatchOption result (lowest_emptied n (made W.Window.numbers self.now) ≡ n) (λ k. (k < n) × (lowest_emptied n (made W.Window.numbers self.now) ≡ k)) }
     {
-        // n stands for none in the loop, as in the definition: the least is then found without asking for an Option at each item
-        let mut lowest = n;
-        for entry in self.list.as_slice() {
-            if entry.new.is_none() && entry.at < lowest {
-                lowest = entry.at;
-            }
-        }
-        if lowest < n { Some(lowest) } else { None }
+        self.list
+            .as_slice()
+            .iter()
+            .filter(|entry| entry.new.is_none() && entry.at < n)
+            .map(|entry| entry.at)
+            .min()
     }
 
     // Puts each new window in its place, and says which windows are others now.

@@ -1,21 +1,17 @@
-use Rattle.std.proofs.Common.{drop, ◌+◌, ◌≡◌, cond, not, ◌&&◌, ltb, sym, ap, ◌∙◌, arith}
-use Rattle.std.proofs.lemmas.Bool.Decides.{nat_tests}
-use Rattle.rulebook.specs.Tables.{filled}
-use Rattle.rules.specs.Writing.{numbers_of, entry, listed, lowest_emptied}
+use Rattle.std.proofs.Common.{◌≡◌, ◌∙◌, ◌<◌, ◌&&◌, not, ltb, is_some, sym, subst, MatchOption, rules}
+use Rattle.std.proofs.lemmas.Iterator.{YieldsList-from_slice, YieldsList-from_map}
+use Rattle.std.proofs.lemmas.Iterator.Adapters.{option_map_id}
+use Rattle.std.proofs.lemmas.Iterator.Consumers.{YieldsList-at, YieldsList-from_filter, min_from_yields_List}
+use borrow.Author.Tests.{tests}
+use Rattle.bounded.specs.Lists.{items}
+use Rattle.rules.specs.Writing.{lowest_emptied}
 use Rattle.rules.specs.Made.{made}
-use Rattle.rules.proofs.WritingLaws.{listed_next, listed_none, lowest_more, filled_of, lowest_below}
+use Rattle.rules.proofs.WritingLaws.{lowest_is_least}
 use Rattle.rules.proofs.new_windows.NewWindows.lowest_emptied.Goals as goal
-use Rattle.rules.proofs.new_windows.NewWindows.lowest_emptied.Goals.{then-is_none+then-entry-lowest, else-is_none, else-is_none-via-then-is_none+else-entry-lowest, else-is_none-via-else-is_none}
 
-pub loop-entry-preserved : goal.loop-entry-preserved
-loop-entry-preserved g c =
-    let item = c.entry-item.result in
-    let f = filled_of g.W.Window.numbers (λ w. (g.met.W.Window.kinds w).some) item.new ∙ c.is_none.ensures in
-    let low : c.if-is_none.lowest ≡ cond (not (filled (numbers_of g.W.Window.numbers item.new)) && ltb item.at c.loop-entry.lowest) item.at c.loop-entry.lowest = elim c.if-is_none.branch [ then-is_none+then-entry-lowest w ↦ rw w.lowest-is (let a = w.if-is_none.true in let b = w.if-entry-lowest.true in grind (arith, nat_tests)) | else-is_none w ↦ elim w.else-is_none.branch [ else-is_none-via-then-is_none+else-entry-lowest w' ↦ rw w.lowest-is (let a = w'.if-entry-lowest.false in grind (arith, nat_tests)) | else-is_none-via-else-is_none w' ↦ rw w.lowest-is (let a = w'.if-is_none.false in grind (arith, nat_tests)) ] ] in
-    let es = listed g.W.Window.numbers c.as_slice-entry-items.result.now in
-    lowest_more (drop c.loop-entry.entry-index es) (entry g.W.Window.numbers item) (drop (c.loop-entry.entry-index + 1) es) c.loop-entry.lowest c.if-is_none.lowest (lowest_emptied c.args.n es) (listed_next g.W.Window.numbers c.as_slice-entry-items.result.now c.loop-entry.entry-index item c.loop-entry-test.true c.entry-item.is) low c.loop-entry.invariant
-
-pub returns-else-lowest-n : goal.returns-else-lowest-n
-returns-else-lowest-n g c =
-    let e : c.loop-entry.lowest ≡ lowest_emptied c.args.n (made g.W.Window.numbers c.args.self.now) = sym (ap (lowest_emptied c.loop-entry.lowest) (listed_none g.W.Window.numbers c.as_slice-entry-items.result.now c.loop-entry.entry-index c.loop-entry-test.false)) ∙ c.loop-entry.invariant ∙ ap (λ xs. lowest_emptied c.args.n (listed g.W.Window.numbers xs)) c.as_slice-entry-items.ensures in
-    omega (arith, e, lowest_below c.args.n (made g.W.Window.numbers c.args.self.now), c.if-lowest-n.false)
+pub returns : goal.returns
+returns g c =
+    let xs = items c.args.self.now.list in
+    let least = min_from_yields_List c.map.result _ c.min.ensures.ran (YieldsList-from_map _ (λ x. x.at) (YieldsList-at c.map.ensures.source (YieldsList-from_filter _ (λ x. not (is_some x.new) && ltb x.at c.args.n) (YieldsList-from_slice xs cc) c.filter.ensures.closure (λ x b q k. search (rules, tests) fits 3000))) c.map.ensures.closure (λ x b q k. search (rules, tests))) in
+    let low = lowest_emptied c.args.n (made g.W.Window.numbers c.args.self.now) in
+    subst (λ o. MatchOption o (low ≡ c.args.n) (λ k. (k < c.args.n) × (low ≡ k))) (sym (sym (option_map_id _) ∙ least)) (lowest_is_least g.W.Window.numbers (λ w. (g.met.W.Window.kinds w).some) c.args.n xs)
