@@ -52,4 +52,18 @@ impl<'a, W: Window> Board<'a, W> {
         let wanted = reach <= self.rows.len();
         check::<W>(self.rows, self.store.len(), wanted)
     }
+
+    // What the board is refused for by a plan for so many windows: an Option, as callers took it before `check`.
+    pub fn refusal(&self, windows: usize) -> Option<PlanRefusal>
+        ensures { let T = map W.Window.stands self.now.rows.now in result ≡ board_refusal T (length self.now.store.now) (length T == windows) }
+    {
+        self.check(windows).err()
+    }
+
+    // What the board is refused for by the making of a plan whose rules reach so far.
+    pub fn refusal_for(&self, reach: usize) -> Option<PlanRefusal>
+        ensures { let T = map W.Window.stands self.now.rows.now in result ≡ board_refusal T (length self.now.store.now) (nat_le reach (length T)) }
+    {
+        self.check_reach(reach).err()
+    }
 }
