@@ -43,6 +43,16 @@ impl<T: Copy + Default, const N: usize> BoundedList<T, N> {
 impl<T: Copy, const N: usize> BoundedList<T, N> {
     ghost use Rattle.bounded.specs.Lists.{items, pushed, removed};
 
+    // The first k of these items, or all of them if there are fewer.
+    pub fn first_of(slots: [T; N], k: usize) -> BoundedList<T, N>
+        ensures { items result ≡ take k slots }
+    {
+        BoundedList {
+            slots,
+            len: k.min(N),
+        }
+    }
+
     // How many items there are.
     pub fn len(&self) -> usize
         ensures { result ≡ length (items self.now) }

@@ -59,7 +59,7 @@ fn bound_fits(bound: i32) -> bool
 }
 
 // The terms that were given, the first eight where there are more.
-pub fn given(post: &PostedSum) -> &[Term]
+fn given(post: &PostedSum) -> &[Term]
     ensures { result.now ≡ given post.now }
 {
     &post.terms[..post.count.min(MOST_TERMS)]

@@ -21,14 +21,3 @@ pub struct Sum {
     ghost weights: { weights_fit (items terms) ≡ true },
     ghost bounded: { bound_fits bound ≡ true },
 }
-
-impl Sum {
-    ghost use Rattle.sums.specs.Meaning.{terms_of};
-
-    // The terms.
-    fn terms(&self) -> &[Term]
-        ensures { result.now ≡ terms_of self.now }
-    {
-        self.terms.as_slice()
-    }
-}

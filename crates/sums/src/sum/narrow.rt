@@ -12,7 +12,7 @@ ghost use Rattle.sums.specs.Laws.{SumKeeps, SumReached};
 ghost use Rattle.sums.specs.Steps.{WindowOf, ExtremesOf, entries};
 
 use crate::ends::Ends;
-use crate::posted::Relation;
+use crate::posted::{Relation, Term};
 use crate::sum::Sum;
 use rulebook::{Emptied, WindowSet, window_at};
 use rules::NewWindows;
@@ -92,6 +92,13 @@ impl Weight {
 }
 
 impl Sum {
+    // The terms that the narrowing takes.
+    fn terms(&self) -> &[Term]
+        ensures { result.now ≡ terms_of self.now }
+    {
+        self.terms.as_slice()
+    }
+
     // The least and the greatest sum of the terms, none where the window of a term is missing.
     fn extremes(&self, rows: &[SpanRow]) -> Option<Ends>
         ensures { ExtremesOf (terms_of self.now) (map span_numbers rows.now) result }
