@@ -27,7 +27,7 @@ use Rattle.plan.proofs.CallLaws.{reached_good, reached_holds}
 use Rattle.plan.proofs.CallExits.{none_asked, in_table_from}
 
 -- a book after a posting has room before it, and a lawful last rule
-posted_room : (sets : List ℤ → Type 0) (r : Rule) (old rules : List Rule) → rules ≡ old ++ (r ∷ []) → length rules ≤ 64 → ((i : ℕ) → i < length rules → Lawful sets (get_or rules i missing)) → (length old < 64) × Lawful sets r
+pub posted_room : (sets : List ℤ → Type 0) (r : Rule) (old rules : List Rule) → rules ≡ old ++ (r ∷ []) → length rules ≤ 64 → ((i : ℕ) → i < length rules → Lawful sets (get_or rules i missing)) → (length old < 64) × Lawful sets r
 posted_room sets r old rules e few lawful =
     let long : length rules ≡ length old + 1 = ap length e ∙ length_push old r in
     (omega arith, subst (Lawful sets) (ap (λ (rs : List Rule). get_or rs (length old) missing) e ∙ get_or_push old r missing (length old) refl) (lawful (length old) (omega arith)))

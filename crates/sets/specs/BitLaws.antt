@@ -1,5 +1,5 @@
 -- The bits of a number, as tests: those of the library are numbers, 0 or 1.
-use Rattle.std.proofs.Common.{◌≡◌, ℕ, zero, suc, ◌+◌, ◌-◌, ◌*◌, ◌/◌, ◌%◌, ◌^◌, ◌<◌, ◌≤◌, Bool, false, not, ◌&&◌, eqb, min, ◌⊎◌, sym, ap, ◌∙◌, inl, inr, arith, add-zero, pow-suc, one-add}
+use Rattle.std.proofs.Common.{◌≡◌, ℕ, zero, suc, ◌+◌, ◌-◌, ◌*◌, ◌/◌, ◌%◌, ◌^◌, ◌<◌, ◌≤◌, Bool, false, not, ◌&&◌, eqb, min, ◌⊎◌, sym, ap, ◌∙◌, inl, inr, arith, add-zero, mul-add, pow-suc, one-add}
 use lib.Bits.{bit_and}
 use Rattle.std.specs.Int.{bit_at}
 use Rattle.std.proofs.lemmas.Nat.{shr-shr, pow_pos, div-add-mod'}
@@ -70,6 +70,9 @@ bit_down m d j = ap (λ x. eqb (x % 2) 1) (shr-shr m d j)
 
 pub bit_up : (m d j : ℕ) → d ≤ j → bit (m * 2 ^ d) j ≡ bit m (j - d)
 bit_up m d j h = ap (λ x. bit x j) (sym (add-zero (m * 2 ^ d))) ∙ ap (λ x. eqb x 1) (bit_at_cat_high m d 0 j (pow_pos d) h)
+
+twice : (m d : ℕ) → m * 2 ^ suc d ≡ 2 * (m * 2 ^ d)
+twice m d = ap (λ x. m * x) (doubled d) ∙ mul-add m (2 ^ d) (2 ^ d) ∙ omega arith
 
 pub bit_under : (m d j : ℕ) → j < d → bit (m * 2 ^ d) j ≡ false
 bit_under m d j h = ap (λ x. bit x j) (sym (add-zero (m * 2 ^ d))) ∙ ap (λ x. eqb x 1) (bit_at_cat_low m d 0 j h ∙ bit_at-zero j)

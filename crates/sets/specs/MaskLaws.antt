@@ -145,6 +145,9 @@ one_mask k h = sym (mask_from (pos k ∷ []) (2 ^ k) tt here (λ j l. one j ∙ 
     one : (j : ℕ) → has (pos k ∷ []) (pos j) ≡ eqb k j
     one j = grind (arith, ints, tests, nat_tests)
 
+powers : (i j : ℕ) → i ≤ j → 2 ^ i ≤ 2 ^ j
+powers i j h = pow_mono h
+
 -- more numbers than that of the highest bit
 sole_more : (m k : ℕ) → m < 2 ^ 64 → 2 ^ k ≤ m → m < 2 ^ suc k → (m ≡ 2 ^ k → ⊥) → sole_of (mask_numbers m) ≡ None
 sole_more m k h l g n = go (mask_numbers m) refl
@@ -152,7 +155,7 @@ sole_more m k h l g n = go (mask_numbers m) refl
     same : (j : ℕ) → 2 ^ j ≡ m → (j ≡ k) ⊎ ((j < k) ⊎ (k < j)) → ⊥
     same j e (inl c) = n (sym e ∙ ap (λ i. 2 ^ i) c)
     same j e (inr (inl c)) = let p = pow_below j k c in omega arith
-    same j e (inr (inr c)) = let p : 2 ^ suc k ≤ 2 ^ j = pow_mono c in omega arith
+    same j e (inr (inr c)) = let p = powers (suc k) j c in omega arith
 
     other : (x : ℤ) → mask_numbers m ≡ x ∷ [] → ⊥
     other (negsuc j) e = let b = mask_in m (negsuc j) (ap (λ s. has s (negsuc j)) e ∙ in_here (negsuc j) []) in omega (arith, ints)

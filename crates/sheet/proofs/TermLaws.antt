@@ -17,7 +17,7 @@ from_is s n = between_to_end s n (length s) (omega arith)
 abbrev pub first : List ℕ → Term
 first s = record { window = get_or s 0 0; weight = int32 s 1 }
 
-terms_step : (s : List ℕ) → 5 ≤ length s → terms s ≡ first s ∷ terms (drop 5 s)
+pub terms_step : (s : List ℕ) → 5 ≤ length s → terms s ≡ first s ∷ terms (drop 5 s)
 terms_step [] h = absurd (omega arith)
 terms_step (a ∷ []) h = absurd (omega arith)
 terms_step (a ∷ b ∷ []) h = absurd (omega arith)

@@ -8,21 +8,38 @@ use Rattle.std.proofs.lemmas.Bool.Decides.{eqb_tells}
 use Rattle.windows.specs.Sets.{In, least_by, greatest_by}
 use Rattle.windows.specs.SetLaws.{tests, never, in_kept, within_kept, kept_passes, least_bounds, greatest_bounds, least_reached, greatest_reached}
 use Rattle.rulebook.specs.Tables.{Table, Placing, window, place, filled, all_filled}
-use Rattle.rulebook.specs.Rules.{Outcome, narrowed, emptied}
+use Rattle.rulebook.specs.Rules.{Means, Outcome, narrowed, emptied}
 use Rattle.rulebook.specs.Answers.{outcome, Narrowing, Tells}
 use Rattle.rulebook.specs.declared.answer.Emptied.{Emptied}
 use Rattle.rulebook.specs.declared.set.WindowSet.{WindowSet}
 use Rattle.rules.specs.Pointwise.{make_all, narrow_by, rule_of}
 use Rattle.rules.proofs.PointwiseLaws.{narrow_tells, window_made, guard_yes, guard_no, le_or_lt}
-use Rattle.sums.specs.Sums.{is_exact, in_terms, terms_reach, weight_at, term_least, term_greatest, term_at, total_but, smallest_but, largest_but, sum_passes, sum_new, sum_rule}
+use Rattle.sums.specs.Sums.{is_exact, in_terms, terms_reach, weight_at, term_least, term_greatest, term_at, total_but, smallest_but, largest_but, sum_of, sum_passes, sum_new, sum_rule}
 use Rattle.sums.specs.Questions.{Apart}
 use Rattle.sums.specs.Meaning.{terms_of, sum_meaning}
-use Rattle.sums.specs.Laws.{Keeps, Kept, SumKeeps, Takes, sum_but, SumReached}
+use Rattle.sums.specs.Laws.{Meets, Keeps, Kept, SumKeeps, Takes, sum_but, SumReached}
 use Rattle.sums.specs.Steps.{all_read}
 use Rattle.sums.specs.declared.posted.Term.{Term}
 use Rattle.sums.specs.declared.sum.Sum.{Sum}
 use Rattle.sums.proofs.Totals.{no_term, covers, each_read, in_at, weight_is, but_mono, but_same}
 use Rattle.sums.proofs.SumLaws.{sum_unread}
+
+-- ---- the placings that a sum allows
+pub sum_means : (ts : List Term) (b : ℤ) (exact : Bool) → Means (rule_of (sum_rule ts b exact)) (λ p. Meets exact (sum_of ts p) b)
+sum_means ts b true = record { only = λ p h. equal (sum_of ts p) h; all = λ p e. back (sum_of ts p) e }
+  where
+    equal : (s : ℤ) → (le_z s b && (false || le_z b s)) ≡ true → s ≡ b
+    equal s h = grind (arith, ints, tests)
+
+    back : (s : ℤ) → s ≡ b → (le_z s b && (false || le_z b s)) ≡ true
+    back s e = grind (arith, ints, tests)
+sum_means ts b false = record { only = λ p h. most (sum_of ts p) h; all = λ p e. back (sum_of ts p) e }
+  where
+    most : (s : ℤ) → (le_z s b && true) ≡ true → s ≤ℤ b
+    most s h = grind (arith, ints, tests)
+
+    back : (s : ℤ) → s ≤ℤ b → (le_z s b && true) ≡ true
+    back s e = grind (arith, ints, tests)
 
 -- ---- the numbers that a window keeps
 passes_is : (exact : Bool) (x low high : ℤ) → (le_z x high && (not exact || le_z low x)) ≡ true → (x ≤ℤ high) × (exact ≡ true → low ≤ℤ x)
