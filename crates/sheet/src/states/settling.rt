@@ -25,8 +25,8 @@ impl Read {
             cause: refusal.into(),
             at,
         })?;
-        settle_front(*lent.book, lent.rows, self.windows, lent.store).map_err(|refusal| Fault {
-            cause: refusal.into(),
+        settle_front(*lent.book, lent.rows, self.windows, lent.store).map_err(|refused| Fault {
+            cause: refused.into(),
             at,
         })
     }
