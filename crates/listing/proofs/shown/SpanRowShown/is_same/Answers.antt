@@ -1,9 +1,10 @@
-use Rattle.std.proofs.Common.{ap₂, ◌&&◌, ◌∙◌}
+use Rattle.std.proofs.Common.{arith}
+use Rattle.std.proofs.lemmas.Bool.Decides.{nat_tests}
+use Rattle.windows.specs.SetLaws.{tests}
+use Rattle.windows.specs.SpanLaws.{bits_same}
 use Rattle.listing.proofs.Ends.{ends_same}
 use Rattle.listing.proofs.shown.SpanRowShown.is_same.Goals as goal
 
+-- two rows are the same where their ends are, whether they are compared whole or end by end
 pub returns : goal.returns
-returns c =
-    let p = c.args.self.now in
-    let q = c.args.other.now in
-    c.eq.ensures ∙ ap₂ ◌&&◌ (ends_same p.lo q.lo) (ends_same p.hi q.hi)
+returns c = grind (arith, nat_tests, tests, ends_same, bits_same)
